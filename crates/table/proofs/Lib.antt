@@ -1,0 +1,20 @@
+-- The laws that the containers' proofs cite, and the theorems on the table.
+pub mod Valid
+pub mod Refusals
+pub mod Moves
+pub mod Done
+pub mod Made
+pub mod Looks
+pub mod Walks
+pub mod Stores
+pub mod Shifted
+pub mod Cut
+pub mod Done2
+pub mod Trays
+pub mod Worked
+pub mod Run
+pub mod Order
+pub mod Rows
+pub mod Keeps
+pub mod Demand3
+pub mod Unique

@@ -1,0 +1,10 @@
+-- What the promises of the containers cite, in the order in which to read it.
+pub mod Tray
+pub mod Calls
+pub mod Table
+pub mod Numbers
+pub mod Does
+pub mod Parts
+pub mod Tested
+pub mod Ledger
+pub mod World

@@ -1,0 +1,18 @@
+# Two commands: `make test` is the gate, `make run` runs the program `tray` on its own input.
+.PHONY: test run
+
+# First the papers and the layout, then everything is proved from nothing. rt ci comes last, so that its 'N passed, M failed'
+# is the last line of stdout. After a failure make adds a line of its own on stderr and exits with 2.
+test:
+	@python3 tools/check-layout
+	@python3 tools/check-promises
+	@python3 tools/check-papers
+	@rt fmt --check
+	@rt ci
+
+# What rt says goes to stderr, so that stdout has the program's lines and nothing else. Programs are compiled for x86-64;
+# on another processor rt has run it under its emulator, and the log has the same lines.
+run:
+	@test -d crates/tray || { echo 'make run: the program tray is not written yet; it will stand in crates/tray.' >&2; exit 1; }
+	@rt check tray >&2
+	@if [ "$$(uname -m)" = x86_64 ]; then target/bin/tray <crates/tray/stdin; else cat target/log/tray.stdout; fi

@@ -18,3 +18,7 @@ pub mod Rows
 pub mod Keeps
 pub mod Demand3
 pub mod Unique
+pub mod Refused
+pub mod StaysValid
+pub mod Listed
+pub mod Numbers

@@ -1,8 +1,10 @@
--- The first refusal that applies: `skip` passes a test that fails, `hit` ends at one that holds. And every refusal has a number above 0. Assumes nothing.
-use mathlib.Core.Path.{_≡_, refl, sym, _∙_}
-use Prim.Native.Nat.{ℕ, _≤_}
+-- The first refusal that applies: `skip` passes a test that fails, `hit` ends at one that holds. And every refusal has a number above 0, so
+-- the number tells a refused call from one that is done. Assumes nothing.
+use mathlib.Core.Path.{_≡_, refl, sym, ap, _∙_}
+use Prim.Native.Nat.{ℕ, suc, _≤_, _<_}
 use mathlib.Core.Bool.{Bool, true, false, not, cond, _&&_}
 use mathlib.Core.List.{List, [], _∷_}
+use native.Mathlib.Omega.{arith}
 use borrow.Author.Tests.{eq-eqb, ne-eqb, le-leb, lt-leb, lt-ltb, le-ltb}
 use Rattle.table.specs.Tray.{within}
 use Rattle.table.specs.Table.{Refusal, firstInvalid, secondInvalid, beyond, empty, taken, full, numberOf}
@@ -73,3 +75,46 @@ if-refused beyond f g = refl
 if-refused empty f g = refl
 if-refused taken f g = refl
 if-refused full f g = refl
+
+pub above-zero : (r : Refusal) → 0 < numberOf r
+above-zero firstInvalid = omega arith
+above-zero secondInvalid = omega arith
+above-zero beyond = omega arith
+above-zero empty = omega arith
+above-zero taken = omega arith
+above-zero full = omega arith
+
+-- the number of the first refusal that applies; 0 where none does
+abbrev pub firstNumber : List (Bool × Refusal) → ℕ
+firstNumber rs = firstRefusal (λ m. m) rs 0
+
+-- Where a refusal shows its number, and what is done 0, the number that is seen tells which of the two it is.
+pub record Settled {A : Type 0} (number : A → ℕ) (refuse : ℕ → A) (rs : List (Bool × Refusal)) (done o : A) : Type 0 where
+  pub first : number o ≡ firstNumber rs
+  pub refused : (m : ℕ) → number o ≡ suc m → o ≡ refuse (suc m)
+  pub clear : number o ≡ 0 → Clear rs
+  pub otherwise : Clear rs → o ≡ done
+
+module _ {A : Type 0} (number : A → ℕ) (refuse : ℕ → A) (done : A) (told : (m : ℕ) → number (refuse m) ≡ m) (nought : number done ≡ 0) where
+  number-of : (rs : List (Bool × Refusal)) → number (firstRefusal refuse rs done) ≡ firstNumber rs
+  number-of [] = nought
+  number-of (r ∷ rest) = go (r .0) (number-of rest)
+    where
+      go : (b : Bool) → number (firstRefusal refuse rest done) ≡ firstNumber rest
+          → number (cond b (refuse (numberOf (r .1))) (firstRefusal refuse rest done)) ≡ cond b (numberOf (r .1)) (firstNumber rest)
+      go true e = told (numberOf (r .1))
+      go false e = e
+
+  pub settled : (rs : List (Bool × Refusal)) → Settled number refuse rs done (firstRefusal refuse rs done)
+  settled rs = record {
+    first = number-of rs;
+    refused = λ m.
+        either (λ o. number o ≡ suc m → o ≡ refuse (suc m)) refuse rs done
+        (λ r e. ap refuse (sym (told (numberOf r)) ∙ e))
+        (λ clear e. absurd (omega (arith, nought)));
+    clear =
+        either (λ o. number o ≡ 0 → Clear rs) refuse rs done
+        (λ r e. absurd (omega (arith, told (numberOf r), above-zero r)))
+        (λ clear e. clear);
+    otherwise = clear-of refuse rs done;
+  }

@@ -46,19 +46,19 @@ moved-replaced place i n =
     (λ (ne : j ≡ i → ⊥). home place (place j) j (replaced i j) (rw (ne-eqb j i ne)) refl)
     (same? j i))
 
-inserted-low : (i j : ℕ) → j < i → inserted i j ≡ to j
+pub inserted-low : (i j : ℕ) → j < i → inserted i j ≡ to j
 inserted-low i j h = rw (lt-ltb j i h)
 
-inserted-high : (i j : ℕ) → i ≤ j → inserted i j ≡ to (j + 1)
+pub inserted-high : (i j : ℕ) → i ≤ j → inserted i j ≡ to (j + 1)
 inserted-high i j h = rw (le-ltb j i h)
 
-removed-low : (i j : ℕ) → j < i → removed i j ≡ to j
+pub removed-low : (i j : ℕ) → j < i → removed i j ≡ to j
 removed-low i j h = rw (ne-eqb j i (omega arith), lt-ltb j i h)
 
-removed-here : (i j : ℕ) → j ≡ i → removed i j ≡ gone
+pub removed-here : (i j : ℕ) → j ≡ i → removed i j ≡ gone
 removed-here i j e = rw (eq-eqb j i e)
 
-removed-high : (i j : ℕ) → i < j → removed i j ≡ to (j - 1)
+pub removed-high : (i j : ℕ) → i < j → removed i j ≡ to (j - 1)
 removed-high i j h = rw (ne-eqb j i (omega arith), le-ltb j i (omega arith))
 
 module _ (was now : ℕ → ℕ) (n i : ℕ) where
@@ -108,13 +108,13 @@ module _ (was now : ℕ → ℕ) (n i : ℕ) where
       ∙ omega arith
 
 -- swap_remove moves the last to i, unless it is i
-swapped-here : (i n j : ℕ) → j ≡ i → swapped i n j ≡ gone
+pub swapped-here : (i n j : ℕ) → j ≡ i → swapped i n j ≡ gone
 swapped-here i n j e = rw (eq-eqb j i e)
 
-swapped-last : (i n j : ℕ) → (j ≡ i → ⊥) → j ≡ n - 1 → swapped i n j ≡ to i
+pub swapped-last : (i n j : ℕ) → (j ≡ i → ⊥) → j ≡ n - 1 → swapped i n j ≡ to i
 swapped-last i n j ne e = rw (ne-eqb j i ne, eq-eqb j (n - 1) e)
 
-swapped-other : (i n j : ℕ) → (j ≡ i → ⊥) → (j ≡ n - 1 → ⊥) → swapped i n j ≡ to j
+pub swapped-other : (i n j : ℕ) → (j ≡ i → ⊥) → (j ≡ n - 1 → ⊥) → swapped i n j ≡ to j
 swapped-other i n j ne less = rw (ne-eqb j i ne, ne-eqb j (n - 1) less)
 
 module _ (place : ℕ → ℕ) (n i : ℕ) where

@@ -2,6 +2,7 @@
 pub mod Valid
 pub mod Refusals
 pub mod Moves
+pub mod Carrying
 pub mod Done
 pub mod Made
 pub mod Looks

@@ -1,13 +1,15 @@
--- How many entries a call moves, where the entries that it moves are one run of positions. Over any two placings. Assumes nothing.
+-- Which entries a call moves, position by position, and so how many, where they are one run of positions. Over any two placings. Assumes nothing.
 use mathlib.Core.Path.{_≡_, refl, sym, ap, _∙_}
-use mathlib.Core.Bool.{true, false, not}
+use mathlib.Core.Bool.{Bool, true, false, not}
 use mathlib.Core.Logic.{⊎-elim}
 use Prim.Native.Nat.{ℕ, _+_, _-_, _≤_, _<_}
 use native.Mathlib.Omega.{arith}
-use borrow.Author.Tests.{lt-ltb, le-ltb, eq-eqb, ne-eqb}
+use borrow.Author.Tests.{lt-ltb, le-ltb, lt-leb, le-leb, eq-eqb, ne-eqb}
+use lib.Dec.{ltb, leb}
+use Rattle.slots.specs.Count.{one, tally}
 use Rattle.slots.specs.Moves.{Carried, to, gone, stay, inserted, removed, swapped, replaced, kept, elsewhere, moved}
 use Rattle.slots.proofs.Words.{below?, same?}
-use Rattle.slots.proofs.Sums.{tally-none, tally-run}
+use Rattle.slots.proofs.Sums.{sum-cong, tally-none, tally-run}
 
 -- an entry that is carried to its own slot, to another, or out of the list
 home : (now : ℕ → ℕ) (s k : ℕ) (c : Carried) → c ≡ to k → now k ≡ s → elsewhere now s c ≡ false
@@ -61,51 +63,71 @@ removed-here i j e = rw (eq-eqb j i e)
 pub removed-high : (i j : ℕ) → i < j → removed i j ≡ to (j - 1)
 removed-high i j h = rw (ne-eqb j i (omega arith), le-ltb j i (omega arith))
 
-module _ (was now : ℕ → ℕ) (n i : ℕ) where
-  -- insert: the entries below i take other slots and the rest keep theirs, or the other way round
-  pub insert-moves-low : i ≤ n → ((j : ℕ) → j < i → now j ≡ was j → ⊥) → ((j : ℕ) → i ≤ j → j < n → now (j + 1) ≡ was j) → moved was now (inserted i) n ≡ i
-  unfolding moved
-  insert-moves-low fits go keep =
-      tally-run n 0 i _ (omega arith) fits
-      (λ j _ h. away now _ j _ (inserted-low i j h) (go j h))
-      (λ j h. absurd (omega arith))
-      (λ j h k. home now _ (j + 1) _ (inserted-high i j h) (keep j h k))
-      ∙ omega arith
+-- the count, where it is known of each position whether its entry takes another slot
+pub moved-each : (was now : ℕ → ℕ) (carry : ℕ → Carried) (n : ℕ) (test : ℕ → Bool) → ((j : ℕ) → j < n → elsewhere now (was j) (carry j) ≡ test j)
+    → moved was now carry n ≡ tally n test
+unfolding moved tally
+moved-each was now carry n test each = sum-cong n _ _ (λ j h. ap one (each j h))
 
-  pub insert-moves-high : i ≤ n → ((j : ℕ) → j < i → now j ≡ was j) → ((j : ℕ) → i ≤ j → j < n → now (j + 1) ≡ was j → ⊥) → moved was now (inserted i) n ≡ n - i
-  unfolding moved
-  insert-moves-high fits keep go =
-      tally-run n i n _ fits (omega arith)
-      (λ j h k. away now _ (j + 1) _ (inserted-high i j h) (go j h k))
-      (λ j h. home now _ j _ (inserted-low i j h) (keep j h))
-      (λ j h k. absurd (omega arith))
+-- how many positions are before i, from i on, and past it
+pub tally-before : (n i : ℕ) → i ≤ n → tally n (λ j. ltb j i) ≡ i
+tally-before n i h =
+    tally-run n 0 i _ (omega arith) h (λ j _ l. lt-ltb j i l) (λ j l. absurd (omega arith)) (λ j g _. le-ltb j i g) ∙ omega arith
+
+pub tally-from : (n i : ℕ) → i ≤ n → tally n (λ j. leb i j) ≡ n - i
+tally-from n i h = tally-run n i n _ h (omega arith) (λ j g _. le-leb i j g) (λ j l. lt-leb i j l) (λ j g l. absurd (omega arith))
+
+pub tally-past : (n i : ℕ) → i < n → tally n (λ j. ltb i j) ≡ n - 1 - i
+tally-past n i h =
+    tally-run n (i + 1) n _ (omega arith) (omega arith) (λ j g _. lt-ltb i j (omega arith)) (λ j l. le-ltb i j (omega arith)) (λ j g l. absurd (omega arith))
+    ∙ omega arith
+
+module _ (was now : ℕ → ℕ) (n i : ℕ) where
+  -- insert: the entries before i take other slots and the rest keep theirs, or the other way round
+  pub insert-low-each : ((j : ℕ) → j < i → now j ≡ was j → ⊥) → ((j : ℕ) → i ≤ j → j < n → now (j + 1) ≡ was j)
+      → (j : ℕ) → j < n → elsewhere now (was j) (inserted i j) ≡ ltb j i
+  insert-low-each go keep j h =
+      ⊎-elim
+      (λ (low : j < i). away now _ j _ (inserted-low i j low) (go j low) ∙ sym (lt-ltb j i low))
+      (λ (high : i ≤ j). home now _ (j + 1) _ (inserted-high i j high) (keep j high h) ∙ sym (le-ltb j i high))
+      (below? j i)
+
+  pub insert-high-each : ((j : ℕ) → j < i → now j ≡ was j) → ((j : ℕ) → i ≤ j → j < n → now (j + 1) ≡ was j → ⊥)
+      → (j : ℕ) → j < n → elsewhere now (was j) (inserted i j) ≡ leb i j
+  insert-high-each keep go j h =
+      ⊎-elim
+      (λ (low : j < i). home now _ j _ (inserted-low i j low) (keep j low) ∙ sym (lt-leb i j low))
+      (λ (high : i ≤ j). away now _ (j + 1) _ (inserted-high i j high) (go j high h) ∙ sym (le-leb i j high))
+      (below? j i)
 
   -- remove, in the same way
-  pub remove-moves-low : i < n → ((j : ℕ) → j < i → now j ≡ was j → ⊥) → ((j : ℕ) → i < j → j < n → now (j - 1) ≡ was j) → moved was now (removed i) n ≡ i
-  unfolding moved
-  remove-moves-low fits go keep =
-      tally-run n 0 i _ (omega arith) (omega arith)
-      (λ j _ h. away now _ j _ (removed-low i j h) (go j h))
-      (λ j h. absurd (omega arith))
-      (λ j h k.
+  remove-each : (test : ℕ → Bool) → ((j : ℕ) → j < i → elsewhere now (was j) (to j) ≡ test j) → test i ≡ false
+      → ((j : ℕ) → i < j → j < n → elsewhere now (was j) (to (j - 1)) ≡ test j) → (j : ℕ) → j < n → elsewhere now (was j) (removed i j) ≡ test j
+  remove-each test low here high j h =
       ⊎-elim
-      (λ more. home now _ (j - 1) _ (removed-high i j more) (keep j more k))
-      (λ le. out now _ _ (removed-here i j (omega arith)))
+      (λ (l : j < i). rw (removed-low i j l) (low j l))
+      (λ (g : i ≤ j).
+      ⊎-elim
+      (λ (past : i < j). rw (removed-high i j past) (high j past h))
+      (λ (le : j ≤ i). let e : j ≡ i = omega arith in rw e (rw (removed-here i i refl) (sym here)))
       (below? i j))
-      ∙ omega arith
+      (below? j i)
 
-  pub remove-moves-high : i < n → ((j : ℕ) → j < i → now j ≡ was j) → ((j : ℕ) → i < j → j < n → now (j - 1) ≡ was j → ⊥) → moved was now (removed i) n ≡ n - 1 - i
-  unfolding moved
-  remove-moves-high fits keep go =
-      tally-run n (i + 1) n _ (omega arith) (omega arith)
-      (λ j h k. away now _ (j - 1) _ (removed-high i j (omega arith)) (go j (omega arith) k))
-      (λ j h.
-      ⊎-elim
-      (λ less. home now _ j _ (removed-low i j less) (keep j less))
-      (λ ge. out now _ _ (removed-here i j (omega arith)))
-      (below? j i))
-      (λ j h k. absurd (omega arith))
-      ∙ omega arith
+  pub remove-low-each : ((j : ℕ) → j < i → now j ≡ was j → ⊥) → ((j : ℕ) → i < j → j < n → now (j - 1) ≡ was j)
+      → (j : ℕ) → j < n → elsewhere now (was j) (removed i j) ≡ ltb j i
+  remove-low-each go keep =
+      remove-each (λ j. ltb j i)
+      (λ j l. away now _ j _ refl (go j l) ∙ sym (lt-ltb j i l))
+      (le-ltb i i (omega arith))
+      (λ j l h. home now _ (j - 1) _ refl (keep j l h) ∙ sym (le-ltb j i (omega arith)))
+
+  pub remove-high-each : ((j : ℕ) → j < i → now j ≡ was j) → ((j : ℕ) → i < j → j < n → now (j - 1) ≡ was j → ⊥)
+      → (j : ℕ) → j < n → elsewhere now (was j) (removed i j) ≡ ltb i j
+  remove-high-each keep go =
+      remove-each (λ j. ltb i j)
+      (λ j l. home now _ j _ refl (keep j l) ∙ sym (le-ltb i j (omega arith)))
+      (le-ltb i i (omega arith))
+      (λ j l h. away now _ (j - 1) _ refl (go j l h) ∙ sym (lt-ltb i j l))
 
 -- swap_remove moves the last to i, unless it is i
 pub swapped-here : (i n j : ℕ) → j ≡ i → swapped i n j ≡ gone

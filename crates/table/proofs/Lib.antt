@@ -13,6 +13,11 @@ pub mod Cut
 pub mod Done2
 pub mod Trays
 pub mod Worked
+pub mod WorkedChanges
+pub mod WorkedTwo
+pub mod WorkedMakings
+pub mod WorkedLedger
+pub mod WorkedKinds
 pub mod Run
 pub mod Order
 pub mod Rows

@@ -1,4 +1,5 @@
--- A case of each row that none of the trays a to m has, computed from the definitions. Assumes nothing.
+-- Cases beside the trays a to m: here of the calls that change nothing, and of the parts that a vector lends. Each test of a row is met from
+-- both sides, and of two refusals that apply the lower number is answered. Computed from the definitions. Assumes nothing.
 use mathlib.Core.Path.{_≡_, refl}
 use mathlib.Core.List.{[], _∷_}
 use Prim.Native.Nat.{ℕ}
@@ -7,64 +8,224 @@ use Rattle.slots.specs.Count.{one, tally}
 use Rattle.slots.specs.Layout.{ring, vector, slotOf, posOf, entries, relaid}
 use Rattle.slots.specs.Moves.{moved}
 use Rattle.table.specs.Tray.{Tray, valid, Cursor, nowhere}
-use Rattle.table.specs.Calls.{pushFront, remove, write, truncate, resize, clear, extend, look, len, isEmpty, read, reserve, range, iter, stepFront, stepBack, peekFront, peekBack}
-use Rattle.table.specs.Calls.{append, splitOff, clone, fromIter, same, equal, new, withCapacity, fromElem}
-use Rattle.table.specs.Does.{Outcome, gives, refused, does, made, Outcome2, refused2, does2}
-use Rattle.table.proofs.Trays.{tray, answers, W, U}
+use Rattle.table.specs.Calls.{look, len, isEmpty, read, reserve, tryReserve, tryReserveExact, range, iter, intoIter, stepFront, stepBack, peekFront, peekBack}
+use Rattle.table.specs.Does.{Outcome, refused, does}
+use Rattle.table.specs.Parts.{Part, lends, lendsAll, inPart}
+use Rattle.table.proofs.Trays.{tray, answers, cursor, W, U}
 
--- done on W with this value and cursor, and nothing changed
-abbrev shows : (value : ℕ) → Cursor → Outcome
-shows value u = record { number = 0; value = value; moves = 0; tray = W; cursor = u }
+-- done with this value: the tray as it was, and no cursor
+abbrev tells : (value : ℕ) → Tray → Outcome
+tells value t = record { number = 0; value = value; moves = 0; tray = t; cursor = nowhere }
 
-abbrev cursor : (front back : ℕ) → Cursor
-cursor a b = record { front = a; back = b }
+-- done with this value: the tray as it was, and this cursor comes back
+abbrev shows : (value : ℕ) → Cursor → Tray → Outcome
+shows value u t = record { number = 0; value = value; moves = 0; tray = t; cursor = u }
 
--- W's list is 9, 10, 11
-looks : (does ring (look len) W ≡ shows 3 nowhere) × (does ring (look isEmpty) W ≡ shows 0 nowhere)
-    × (does ring (look (read 2)) W ≡ shows 11 nowhere) × (does ring (look (read 3)) W ≡ answers 3 W)
-    × (does ring (look (reserve 1)) W ≡ shows 0 nowhere) × (does ring (look (reserve 2)) W ≡ answers 6 W)
-    × (does ring (look (range 1 3)) W ≡ shows 0 nowhere) × (does ring (look (range 2 1)) W ≡ answers 3 W)
+-- refused: the tray and the cursor as they were
+abbrev stops : (number : ℕ) → Cursor → Tray → Outcome
+stops number u t = refused t u number
+
+-- an empty ring whose head is its last slot, an empty vector, and one that is full
+abbrev pub E : Tray
+E = tray 1 0 (5 ∷ 6 ∷ [])
+
+abbrev pub D : Tray
+D = tray 0 0 (5 ∷ 6 ∷ [])
+
+abbrev pub F : Tray
+F = tray 0 2 (5 ∷ 6 ∷ [])
+
+-- on no slots
+abbrev pub Z : Tray
+Z = tray 0 0 []
+
+-- invalid: more entries than slots, as a ring and as a vector
+abbrev pub X : Tray
+X = tray 0 3 (5 ∷ 6 ∷ [])
+
+-- When a ring is valid: n ≤ c and h < c, or c = h = 0.
+ring-states : (does ring (look len) (tray 3 4 (1 ∷ 2 ∷ 3 ∷ 4 ∷ [])) ≡ tells 4 (tray 3 4 (1 ∷ 2 ∷ 3 ∷ 4 ∷ [])))
+    × (does ring (look len) (tray 3 5 (1 ∷ 2 ∷ 3 ∷ 4 ∷ [])) ≡ answers 1 (tray 3 5 (1 ∷ 2 ∷ 3 ∷ 4 ∷ [])))
+    × (does ring (look len) (tray 4 4 (1 ∷ 2 ∷ 3 ∷ 4 ∷ [])) ≡ answers 1 (tray 4 4 (1 ∷ 2 ∷ 3 ∷ 4 ∷ [])))
+    × (does ring (look len) (tray 0 1 (1 ∷ [])) ≡ tells 1 (tray 0 1 (1 ∷ [])))
+    × (does ring (look len) (tray 1 0 (1 ∷ [])) ≡ answers 1 (tray 1 0 (1 ∷ [])))
+    × (does ring (look len) (tray 0 2 (1 ∷ [])) ≡ answers 1 (tray 0 2 (1 ∷ [])))
+    × (does ring (look len) (tray 0 0 []) ≡ tells 0 (tray 0 0 []))
+    × (does ring (look len) (tray 1 0 []) ≡ answers 1 (tray 1 0 []))
+    × (does ring (look len) (tray 0 1 []) ≡ answers 1 (tray 0 1 []))
+    × (does ring (look len) (tray 18446744073709551615 0 (1 ∷ [])) ≡ answers 1 (tray 18446744073709551615 0 (1 ∷ [])))
+    × (does ring (look len) (tray 0 18446744073709551615 (1 ∷ [])) ≡ answers 1 (tray 0 18446744073709551615 (1 ∷ [])))
 unfolding does valid entries relaid moved tabulate tally one slotOf posOf
-looks = (refl, refl, refl, refl, refl, refl, refl, refl)
+ring-states = (refl, refl, refl, refl, refl, refl, refl, refl, refl, refl, refl)
 
-cursors : (does ring (look iter) W ≡ shows 0 (cursor 0 3))
-    × (does ring (look (stepFront (cursor 0 3))) W ≡ shows 9 (cursor 1 3)) × (does ring (look (stepBack (cursor 0 3))) W ≡ shows 11 (cursor 0 2))
-    × (does ring (look (stepFront (cursor 2 2))) W ≡ refused W (cursor 2 2) 4) × (does ring (look (stepBack (cursor 0 4))) W ≡ refused W (cursor 0 4) 3)
-    × (does ring (look (peekFront (cursor 1 3) 1)) W ≡ shows 11 (cursor 1 3)) × (does ring (look (peekBack (cursor 1 3) 1)) W ≡ shows 10 (cursor 1 3))
-    × (does ring (look (peekBack (cursor 1 3) 2)) W ≡ refused W (cursor 1 3) 3)
+-- When a vector is valid: n ≤ c.
+vector-states : (does vector (look len) (tray 0 4 (1 ∷ 2 ∷ 3 ∷ 4 ∷ [])) ≡ tells 4 (tray 0 4 (1 ∷ 2 ∷ 3 ∷ 4 ∷ [])))
+    × (does vector (look len) (tray 0 5 (1 ∷ 2 ∷ 3 ∷ 4 ∷ [])) ≡ answers 1 (tray 0 5 (1 ∷ 2 ∷ 3 ∷ 4 ∷ [])))
+    × (does vector (look len) (tray 0 0 []) ≡ tells 0 (tray 0 0 []))
+    × (does vector (look len) (tray 0 1 []) ≡ answers 1 (tray 0 1 []))
+    × (does vector (look len) (tray 0 18446744073709551615 (1 ∷ [])) ≡ answers 1 (tray 0 18446744073709551615 (1 ∷ [])))
 unfolding does valid entries relaid moved tabulate tally one slotOf posOf
-cursors = (refl, refl, refl, refl, refl, refl, refl, refl)
+vector-states = (refl, refl, refl, refl, refl)
 
--- an entry that leaves the list does not count as moved, also where the head goes to 0
-changes : (does ring (pushFront 8) W ≡ gives 0 0 1 4 (11 ∷ 8 ∷ 9 ∷ 10 ∷ [])) × (does ring (write 1 8) W ≡ gives 10 0 2 3 (11 ∷ 0 ∷ 9 ∷ 8 ∷ []))
-    × (does ring (truncate 1) W ≡ gives 0 0 2 1 (0 ∷ 0 ∷ 9 ∷ 0 ∷ [])) × (does ring (resize 4 8) W ≡ gives 0 0 2 4 (11 ∷ 8 ∷ 9 ∷ 10 ∷ []))
-    × (does ring clear W ≡ gives 0 0 0 0 (0 ∷ 0 ∷ 0 ∷ 0 ∷ [])) × (does vector (extend (7 ∷ [])) U ≡ gives 0 0 0 4 (1 ∷ 2 ∷ 3 ∷ 7 ∷ []))
-    × (does vector (extend (7 ∷ 8 ∷ [])) U ≡ answers 6 U) × (does vector (remove 0) U ≡ gives 1 2 0 2 (2 ∷ 3 ∷ 0 ∷ 9 ∷ []))
+-- `is_empty` is 1 or 0; an invalid state answers 1 with value 0.
+empties : (does vector (look isEmpty) D ≡ tells 1 D) × (does vector (look isEmpty) U ≡ tells 0 U) × (does vector (look isEmpty) Z ≡ tells 1 Z)
+    × (does vector (look isEmpty) X ≡ answers 1 X)
 unfolding does valid entries relaid moved tabulate tally one slotOf posOf
-changes = (refl, refl, refl, refl, refl, refl, refl, refl)
+empties = (refl, refl, refl, refl)
 
-makings : (made ring new (7 ∷ 8 ∷ []) ≡ gives 0 0 0 0 (7 ∷ 8 ∷ [])) × (made vector (withCapacity 3) (7 ∷ 8 ∷ []) ≡ answers 6 (tray 0 0 (7 ∷ 8 ∷ [])))
-    × (made vector (fromElem 1 5) (7 ∷ 8 ∷ []) ≡ gives 0 0 0 1 (5 ∷ 8 ∷ []))
-unfolding made valid entries relaid moved tabulate tally one slotOf posOf
-makings = (refl, refl, refl)
+-- `read` reaches the last entry and not the free slot after it, wherever the ring wraps.
+reads : (does ring (look (read 0)) W ≡ tells 9 W) × (does ring (look (read 1)) W ≡ tells 10 W) × (does ring (look (read 2)) W ≡ tells 11 W)
+    × (does ring (look (read 3)) W ≡ answers 3 W)
+    × (does ring (look (read 18446744073709551615)) W ≡ answers 3 W)
+    × (does ring (look (read 0)) E ≡ answers 3 E)
+    × (does ring (look (read 0)) Z ≡ answers 3 Z)
+    × (does ring (look (read 3)) X ≡ answers 1 X)
+    × (does vector (look (read 0)) U ≡ tells 1 U)
+    × (does vector (look (read 2)) U ≡ tells 3 U)
+    × (does vector (look (read 3)) U ≡ answers 3 U)
+    × (does vector (look (read 18446744073709551615)) U ≡ answers 3 U)
+    × (does vector (look (read 3)) X ≡ answers 1 X)
+unfolding does valid entries relaid moved tabulate tally one slotOf posOf
+reads = (refl, refl, refl, refl, refl, refl, refl, refl, refl, refl, refl, refl, refl)
 
--- done on two, with this value and cursor
-abbrev gives2 : (value : ℕ) (t t2 : Tray) → Cursor → Outcome2
-gives2 value t t2 u = record { number = 0; value = value; moves = 0; first = t; second = t2; cursor = u }
+-- `reserve` asks for as many free slots as there are. The last k is one whose sum with n is 2 to the 64th.
+reserves : (does ring (look (reserve 0)) W ≡ tells 0 W) × (does ring (look (reserve 1)) W ≡ tells 0 W) × (does ring (look (reserve 2)) W ≡ answers 6 W)
+    × (does ring (look (reserve 18446744073709551613)) W ≡ answers 6 W)
+    × (does ring (look (reserve 0)) Z ≡ tells 0 Z)
+    × (does ring (look (reserve 1)) Z ≡ answers 6 Z)
+    × (does ring (look (reserve 1)) X ≡ answers 1 X)
+    × (does vector (look (reserve 2)) D ≡ tells 0 D)
+    × (does vector (look (reserve 3)) D ≡ answers 6 D)
+    × (does vector (look (reserve 0)) F ≡ tells 0 F)
+    × (does vector (look (reserve 1)) F ≡ answers 6 F)
+    × (does vector (look (reserve 18446744073709551613)) U ≡ answers 6 U)
+    × (does vector (look (reserve 1)) X ≡ answers 1 X)
+unfolding does valid entries relaid moved tabulate tally one slotOf posOf
+reserves = (refl, refl, refl, refl, refl, refl, refl, refl, refl, refl, refl, refl, refl)
 
--- an empty T, which is a ring for a ring and a vector for from_iter
-abbrev T : Tray
-T = tray 1 0 (5 ∷ 6 ∷ [])
+-- `try_reserve` and `try_reserve_exact` answer as `reserve` does.
+tries : (does vector (look (tryReserve 1)) U ≡ tells 0 U) × (does vector (look (tryReserve 2)) U ≡ answers 6 U)
+    × (does vector (look (tryReserve 0)) F ≡ tells 0 F)
+    × (does vector (look (tryReserve 18446744073709551613)) U ≡ answers 6 U)
+    × (does vector (look (tryReserve 1)) X ≡ answers 1 X)
+    × (does vector (look (tryReserveExact 1)) U ≡ tells 0 U)
+    × (does vector (look (tryReserveExact 2)) U ≡ answers 6 U)
+    × (does vector (look (tryReserveExact 0)) F ≡ tells 0 F)
+    × (does vector (look (tryReserveExact 18446744073709551613)) U ≡ answers 6 U)
+    × (does vector (look (tryReserveExact 1)) X ≡ answers 1 X)
+unfolding does valid entries relaid moved tabulate tally one slotOf posOf
+tries = (refl, refl, refl, refl, refl, refl, refl, refl, refl, refl)
 
-abbrev T′ : Tray
-T′ = tray 0 0 (5 ∷ 6 ∷ [])
+-- The range question: a ≤ b and b ≤ n, each at its bound and past it.
+ranges : (does vector (look (range 0 3)) U ≡ tells 0 U) × (does vector (look (range 1 2)) U ≡ tells 0 U) × (does vector (look (range 3 3)) U ≡ tells 0 U)
+    × (does vector (look (range 2 1)) U ≡ answers 3 U)
+    × (does vector (look (range 0 4)) U ≡ answers 3 U)
+    × (does vector (look (range 4 4)) U ≡ answers 3 U)
+    × (does vector (look (range 18446744073709551615 0)) U ≡ answers 3 U)
+    × (does vector (look (range 0 18446744073709551615)) U ≡ answers 3 U)
+    × (does vector (look (range 0 0)) Z ≡ tells 0 Z)
+    × (does vector (look (range 2 1)) X ≡ answers 1 X)
+unfolding does valid entries relaid moved tabulate tally one slotOf posOf
+ranges = (refl, refl, refl, refl, refl, refl, refl, refl, refl, refl)
 
-twos : (does2 ring ring append W (tray 1 1 (3 ∷ 6 ∷ [])) ≡ gives2 0 (tray 2 4 (11 ∷ 6 ∷ 9 ∷ 10 ∷ [])) (tray 0 0 (3 ∷ 0 ∷ [])) nowhere)
-    × (does2 ring ring (splitOff 1) W T ≡ gives2 0 (tray 2 1 (0 ∷ 0 ∷ 9 ∷ 0 ∷ [])) (tray 0 2 (10 ∷ 11 ∷ [])) nowhere)
-    × (does2 ring ring clone W T ≡ refused2 W T nowhere 6) × (does2 ring ring clone T W ≡ refused2 T W nowhere 5)
-    × (does2 ring vector (fromIter (cursor 1 3)) W T′ ≡ gives2 0 W (tray 0 2 (10 ∷ 11 ∷ [])) (cursor 3 3))
-    × (does2 ring vector (fromIter (cursor 0 3)) W T′ ≡ refused2 W T′ (cursor 0 3) 6)
-    × (does2 ring ring same W W ≡ gives2 1 W W nowhere) × (does2 ring ring same W T ≡ gives2 0 W T nowhere)
-    × (does2 vector vector equal U (tray 0 3 (1 ∷ 2 ∷ 3 ∷ [])) ≡ gives2 1 U (tray 0 3 (1 ∷ 2 ∷ 3 ∷ [])) nowhere)
-unfolding does2 valid entries relaid moved tabulate tally one slotOf posOf
-twos = (refl, refl, refl, refl, refl, refl, refl, refl, refl)
+-- a run of slots: its first, and how many
+abbrev part : (start count : ℕ) → Part
+part start count = record { start = start; count = count }
+
+-- A part: the slots of the range, or the empty part at slot 0; `as_slice` and its like lend all entries.
+parts : (lends 0 3 U ≡ part 0 3) × (lends 1 3 U ≡ part 1 2) × (lends 1 1 U ≡ part 1 0) × (lends 3 3 U ≡ part 3 0) × (lends 2 1 U ≡ part 0 0)
+    × (lends 1 4 U ≡ part 0 0)
+    × (lends 4 4 U ≡ part 0 0)
+    × (lends 0 18446744073709551615 U ≡ part 0 0)
+    × (lends 1 2 X ≡ part 0 0)
+    × (lendsAll U ≡ part 0 3)
+    × (lendsAll (tray 0 0 (5 ∷ [])) ≡ part 0 0)
+    × (lendsAll X ≡ part 0 0)
+    × (inPart (part 1 2) (1 ∷ 2 ∷ 3 ∷ 9 ∷ []) ≡ 2 ∷ 3 ∷ [])
+    × (inPart (part 0 0) (1 ∷ 2 ∷ 3 ∷ 9 ∷ []) ≡ [])
+unfolding valid
+parts = (refl, refl, refl, refl, refl, refl, refl, refl, refl, refl, refl, refl, refl, refl)
+
+-- `iter` and `into_iter` begin at 0 and n; refused, they give cursor 0, 0.
+iters : (does ring (look iter) W ≡ shows 0 (cursor 0 3) W) × (does ring (look intoIter) W ≡ shows 0 (cursor 0 3) W)
+    × (does ring (look iter) E ≡ shows 0 (cursor 0 0) E)
+    × (does ring (look iter) X ≡ stops 1 (cursor 0 0) X)
+    × (does ring (look intoIter) X ≡ stops 1 (cursor 0 0) X)
+    × (does vector (look iter) U ≡ shows 0 (cursor 0 3) U)
+    × (does vector (look intoIter) U ≡ shows 0 (cursor 0 3) U)
+    × (does vector (look intoIter) D ≡ shows 0 (cursor 0 0) D)
+    × (does vector (look iter) X ≡ stops 1 (cursor 0 0) X)
+    × (does vector (look intoIter) X ≡ stops 1 (cursor 0 0) X)
+unfolding does valid entries relaid moved tabulate tally one slotOf posOf
+iters = (refl, refl, refl, refl, refl, refl, refl, refl, refl, refl)
+
+-- A step from the front, from a whole cursor to an ended one; W's list is 9, 10, 11.
+front-steps : (does ring (look (stepFront (cursor 0 3))) W ≡ shows 9 (cursor 1 3) W)
+    × (does ring (look (stepFront (cursor 1 3))) W ≡ shows 10 (cursor 2 3) W)
+    × (does ring (look (stepFront (cursor 2 3))) W ≡ shows 11 (cursor 3 3) W)
+    × (does ring (look (stepFront (cursor 3 3))) W ≡ stops 4 (cursor 3 3) W)
+    × (does ring (look (stepFront (cursor 1 1))) W ≡ stops 4 (cursor 1 1) W)
+    × (does vector (look (stepFront (cursor 1 2))) U ≡ shows 2 (cursor 2 2) U)
+    × (does vector (look (stepFront (cursor 2 2))) U ≡ stops 4 (cursor 2 2) U)
+    × (does ring (look (stepFront (cursor 0 0))) Z ≡ stops 4 (cursor 0 0) Z)
+unfolding does valid entries relaid moved tabulate tally one slotOf posOf
+front-steps = (refl, refl, refl, refl, refl, refl, refl, refl)
+
+-- A step from the back.
+back-steps : (does ring (look (stepBack (cursor 0 3))) W ≡ shows 11 (cursor 0 2) W)
+    × (does ring (look (stepBack (cursor 1 2))) W ≡ shows 10 (cursor 1 1) W)
+    × (does ring (look (stepBack (cursor 0 1))) W ≡ shows 9 (cursor 0 0) W)
+    × (does ring (look (stepBack (cursor 0 0))) W ≡ stops 4 (cursor 0 0) W)
+    × (does ring (look (stepBack (cursor 3 3))) W ≡ stops 4 (cursor 3 3) W)
+    × (does vector (look (stepBack (cursor 1 3))) U ≡ shows 3 (cursor 1 2) U)
+    × (does vector (look (stepBack (cursor 2 2))) U ≡ stops 4 (cursor 2 2) U)
+    × (does vector (look (stepBack (cursor 0 0))) Z ≡ stops 4 (cursor 0 0) Z)
+unfolding does valid entries relaid moved tabulate tally one slotOf posOf
+back-steps = (refl, refl, refl, refl, refl, refl, refl, refl)
+
+-- A damaged cursor: front past back, back past n, both at once, and ended past n, where 3 comes before 4. An invalid state comes before all.
+damaged-steps : (does ring (look (stepFront (cursor 2 1))) W ≡ stops 3 (cursor 2 1) W)
+    × (does ring (look (stepFront (cursor 0 4))) W ≡ stops 3 (cursor 0 4) W)
+    × (does ring (look (stepFront (cursor 4 4))) W ≡ stops 3 (cursor 4 4) W)
+    × (does ring (look (stepFront (cursor 18446744073709551615 0))) W ≡ stops 3 (cursor 18446744073709551615 0) W)
+    × (does ring (look (stepFront (cursor 4 4))) X ≡ stops 1 (cursor 4 4) X)
+    × (does ring (look (stepBack (cursor 2 1))) W ≡ stops 3 (cursor 2 1) W)
+    × (does ring (look (stepBack (cursor 0 4))) W ≡ stops 3 (cursor 0 4) W)
+    × (does ring (look (stepBack (cursor 4 4))) W ≡ stops 3 (cursor 4 4) W)
+    × (does ring (look (stepBack (cursor 0 18446744073709551615))) W ≡ stops 3 (cursor 0 18446744073709551615) W)
+    × (does ring (look (stepBack (cursor 4 4))) X ≡ stops 1 (cursor 4 4) X)
+    × (does vector (look (stepFront (cursor 0 4))) U ≡ stops 3 (cursor 0 4) U)
+    × (does vector (look (stepBack (cursor 3 2))) U ≡ stops 3 (cursor 3 2) U)
+    × (does vector (look (stepFront (cursor 2 1))) X ≡ stops 1 (cursor 2 1) X)
+unfolding does valid entries relaid moved tabulate tally one slotOf posOf
+damaged-steps = (refl, refl, refl, refl, refl, refl, refl, refl, refl, refl, refl, refl, refl)
+
+-- A peek from the front shows the k-th remaining, the last of them too, and not one more.
+front-peeks : (does ring (look (peekFront (cursor 0 3) 0)) W ≡ shows 9 (cursor 0 3) W)
+    × (does ring (look (peekFront (cursor 1 3) 1)) W ≡ shows 11 (cursor 1 3) W)
+    × (does ring (look (peekFront (cursor 1 3) 2)) W ≡ stops 3 (cursor 1 3) W)
+    × (does ring (look (peekFront (cursor 0 2) 2)) W ≡ stops 3 (cursor 0 2) W)
+    × (does ring (look (peekFront (cursor 2 2) 0)) W ≡ stops 3 (cursor 2 2) W)
+    × (does ring (look (peekFront (cursor 2 1) 0)) W ≡ stops 3 (cursor 2 1) W)
+    × (does ring (look (peekFront (cursor 0 4) 0)) W ≡ stops 3 (cursor 0 4) W)
+    × (does ring (look (peekFront (cursor 1 3) 18446744073709551615)) W ≡ stops 3 (cursor 1 3) W)
+    × (does ring (look (peekFront (cursor 2 1) 5)) X ≡ stops 1 (cursor 2 1) X)
+    × (does vector (look (peekFront (cursor 1 3) 0)) U ≡ shows 2 (cursor 1 3) U)
+    × (does vector (look (peekFront (cursor 1 3) 2)) U ≡ stops 3 (cursor 1 3) U)
+unfolding does valid entries relaid moved tabulate tally one slotOf posOf
+front-peeks = (refl, refl, refl, refl, refl, refl, refl, refl, refl, refl, refl)
+
+-- A peek from the back.
+back-peeks : (does ring (look (peekBack (cursor 0 3) 0)) W ≡ shows 11 (cursor 0 3) W)
+    × (does ring (look (peekBack (cursor 1 3) 1)) W ≡ shows 10 (cursor 1 3) W)
+    × (does ring (look (peekBack (cursor 1 3) 2)) W ≡ stops 3 (cursor 1 3) W)
+    × (does ring (look (peekBack (cursor 0 2) 0)) W ≡ shows 10 (cursor 0 2) W)
+    × (does ring (look (peekBack (cursor 2 2) 0)) W ≡ stops 3 (cursor 2 2) W)
+    × (does ring (look (peekBack (cursor 2 1) 0)) W ≡ stops 3 (cursor 2 1) W)
+    × (does ring (look (peekBack (cursor 0 4) 0)) W ≡ stops 3 (cursor 0 4) W)
+    × (does ring (look (peekBack (cursor 1 3) 18446744073709551615)) W ≡ stops 3 (cursor 1 3) W)
+    × (does ring (look (peekBack (cursor 2 1) 5)) X ≡ stops 1 (cursor 2 1) X)
+    × (does vector (look (peekBack (cursor 1 3) 1)) U ≡ shows 2 (cursor 1 3) U)
+    × (does vector (look (peekBack (cursor 1 3) 2)) U ≡ stops 3 (cursor 1 3) U)
+unfolding does valid entries relaid moved tabulate tally one slotOf posOf
+back-peeks = (refl, refl, refl, refl, refl, refl, refl, refl, refl, refl, refl)

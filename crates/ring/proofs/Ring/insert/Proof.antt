@@ -1,0 +1,39 @@
+-- `Ring::insert` meets its promise. Assumes nothing.
+use borrow.Author.Needs.{needs}
+use Rattle.table.specs.Does.{does}
+use Rattle.table.proofs.Valid.{state}
+use Rattle.table.proofs.Shifted.{insert-front-done, insert-back-done}
+use Rattle.ring.proofs.Told.{refusals, shown}
+use Rattle.ring.proofs.Ring.insert.Statement.{statement}
+use Rattle.ring.proofs.Ring.insert.Tie as tie
+
+pub insert-spec : {M : Type 1} → statement M
+unfolding does
+insert-spec =
+    tie.close
+    (tie.spec
+    (λ c κs. search needs)
+    (λ c κs. search needs)
+    (λ c. search refusals)
+    (λ c κs. search needs)
+    (λ c. search refusals)
+    (λ c κs. search needs)
+    (λ c. search refusals)
+    (λ c. search needs)
+    (λ c κs. omega state)
+    (λ c κs. omega state)
+    (λ c κs. omega state)
+    (λ c. search needs)
+    (λ c. search needs)
+    (λ c. search needs)
+    (λ c κs. search needs)
+    (λ c. search needs)
+    (λ c. search (insert-front-done, shown))
+    (λ c κs. omega state)
+    (λ c κs. omega state)
+    (λ c. search needs)
+    (λ c. search needs)
+    (λ c. search needs)
+    (λ c κs. search needs)
+    (λ c. search needs)
+    (λ c. search (insert-back-done, shown)))

@@ -1,0 +1,27 @@
+-- `Ring::push_front` meets its promise. Assumes nothing.
+use borrow.Author.Needs.{needs}
+use Rattle.table.specs.Does.{does}
+use Rattle.table.proofs.Valid.{state}
+use Rattle.table.proofs.Stores.{push-front-done}
+use Rattle.ring.proofs.Told.{refusals, shown}
+use Rattle.ring.proofs.Ring.push_front.Statement.{statement}
+use Rattle.ring.proofs.Ring.push_front.Tie as tie
+
+pub push-front-spec : {M : Type 1} → statement M
+unfolding does
+push-front-spec =
+    tie.close
+    (tie.spec
+    (λ c κs. search needs)
+    (λ c κs. search needs)
+    (λ c. search refusals)
+    (λ c κs. search needs)
+    (λ c. search refusals)
+    (λ c. search needs)
+    (λ c κs. omega state)
+    (λ c. search needs)
+    (λ c. search needs)
+    (λ c. search needs)
+    (λ c κs. search needs)
+    (λ c. search needs)
+    (λ c. search (push-front-done, shown)))

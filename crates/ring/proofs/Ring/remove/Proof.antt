@@ -1,0 +1,39 @@
+-- `Ring::remove` meets its promise. Assumes nothing.
+use borrow.Author.Needs.{needs}
+use Rattle.table.specs.Does.{does}
+use Rattle.table.proofs.Valid.{state}
+use Rattle.table.proofs.Shifted.{remove-front-done, remove-back-done}
+use Rattle.ring.proofs.Told.{refusals, shown}
+use Rattle.ring.proofs.Ring.remove.Statement.{statement}
+use Rattle.ring.proofs.Ring.remove.Tie as tie
+
+pub remove-spec : {M : Type 1} → statement M
+unfolding does
+remove-spec =
+    tie.close
+    (tie.spec
+    (λ c κs. search needs)
+    (λ c κs. search needs)
+    (λ c. search refusals)
+    (λ c κs. search needs)
+    (λ c. search refusals)
+    (λ c. search needs)
+    (λ c κs. omega state)
+    (λ c. search needs)
+    (λ c. search needs)
+    (λ c. search needs)
+    (λ c κs. omega state)
+    (λ c. omega state)
+    (λ c. omega state)
+    (λ c κs. omega state)
+    (λ c κs. search needs)
+    (λ c. search needs)
+    (λ c. search (remove-front-done, shown))
+    (λ c κs. omega state)
+    (λ c κs. omega state)
+    (λ c. search needs)
+    (λ c. search needs)
+    (λ c. search needs)
+    (λ c κs. search needs)
+    (λ c. search needs)
+    (λ c. search (remove-back-done, shown)))

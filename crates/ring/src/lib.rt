@@ -1,0 +1,307 @@
+// A ring of entries in lent slots. Each call's promise is its row of the table: what is seen of it is what the table says.
+ghost use mathlib.Core.Path.{_≡_};
+ghost use Rattle.slots.specs.Layout.{ring};
+ghost use Rattle.table.specs.Calls.{new, withCapacity, look, len, read, reserve, write, push, pushFront, pop, popFront, insert, remove, truncate, resize, clear};
+ghost use Rattle.table.specs.Does.{does, made};
+ghost use Rattle.ring.specs.Seen.{tray, seen, refusing, giving};
+
+pub struct Ring {
+    pub head: usize,
+    pub len: usize,
+}
+
+pub struct Answer {
+    pub number: u8,
+    pub value: u32,
+    pub moves: usize,
+    pub ring: Ring,
+}
+
+impl Ring {
+    pub fn new(slots: &[u32]) -> Answer
+        ensures { λ r. ⌜ seen r (now (slots .entry)) ≡ made ring new (now (slots .entry)) ⌝ }
+    {
+        let cap = slots.len();
+        if 4096 < cap {
+            return refused(1, Ring { head: 0, len: 0 });
+        }
+        done(0, 0, 0, 0)
+    }
+
+    pub fn with_capacity(slots: &[u32], k: usize) -> Answer
+        ensures { λ r. ⌜ seen r (now (slots .entry)) ≡ made ring (withCapacity k) (now (slots .entry)) ⌝ }
+    {
+        if 4096 < slots.len() {
+            return refused(1, Ring { head: 0, len: 0 });
+        }
+        if slots.len() < k {
+            return refused(6, Ring { head: 0, len: 0 });
+        }
+        done(0, 0, 0, 0)
+    }
+
+    pub fn len(self, slots: &[u32]) -> Answer
+        ensures { λ r. ⌜ seen r (now (slots .entry)) ≡ does ring (look len) (tray self (now (slots .entry))) ⌝ }
+    {
+        let cap = slots.len();
+        let head = self.head;
+        let len = self.len;
+        if table::invalid_ring(cap, head, len) {
+            return refused(1, self);
+        }
+        done(len as u32, 0, head, len)
+    }
+
+    pub fn read(self, slots: &[u32], i: usize) -> Answer
+        ensures { λ r. ⌜ seen r (now (slots .entry)) ≡ does ring (look (read i)) (tray self (now (slots .entry))) ⌝ }
+    {
+        let cap = slots.len();
+        let head = self.head;
+        let len = self.len;
+        if table::invalid_ring(cap, head, len) {
+            return refused(1, self);
+        }
+        if len <= i { // a free slot's number is no entry
+            return refused(3, self);
+        }
+        let at = slots::slot(cap, head, i);
+        done(slots[at], 0, head, len)
+    }
+
+    // Asks whether there is room for k more, and changes nothing.
+    pub fn reserve(self, slots: &[u32], k: usize) -> Answer
+        ensures { λ r. ⌜ seen r (now (slots .entry)) ≡ does ring (look (reserve k)) (tray self (now (slots .entry))) ⌝ }
+    {
+        let cap = slots.len();
+        let head = self.head;
+        let len = self.len;
+        if table::invalid_ring(cap, head, len) {
+            return refused(1, self);
+        }
+        if cap - len < k {
+            return refused(6, self);
+        }
+        done(0, 0, head, len)
+    }
+
+    pub fn write(self, slots: &mut [u32], i: usize, x: u32) -> Answer
+        ensures { λ r. ⌜ seen r (now (slots .exit)) ≡ does ring (write i x) (tray self (now (slots .entry))) ⌝ }
+    {
+        let cap = slots.len();
+        let head = self.head;
+        let len = self.len;
+        if table::invalid_ring(cap, head, len) {
+            return refused(1, self);
+        }
+        if len <= i {
+            return refused(3, self);
+        }
+        let at = slots::slot(cap, head, i);
+        let old = slots[at];
+        slots[at] = x;
+        done(old, 0, head, len)
+    }
+
+    pub fn push_back(self, slots: &mut [u32], x: u32) -> Answer
+        ensures { λ r. ⌜ seen r (now (slots .exit)) ≡ does ring (push x) (tray self (now (slots .entry))) ⌝ }
+    {
+        let cap = slots.len();
+        let head = self.head;
+        let len = self.len;
+        if table::invalid_ring(cap, head, len) {
+            return refused(1, self);
+        }
+        if cap <= len {
+            return refused(6, self);
+        }
+        let at = slots::slot(cap, head, len);
+        slots[at] = x;
+        done(0, 0, head, len + 1)
+    }
+
+    pub fn push_front(self, slots: &mut [u32], x: u32) -> Answer
+        ensures { λ r. ⌜ seen r (now (slots .exit)) ≡ does ring (pushFront x) (tray self (now (slots .entry))) ⌝ }
+    {
+        let cap = slots.len();
+        let head = self.head;
+        let len = self.len;
+        if table::invalid_ring(cap, head, len) {
+            return refused(1, self);
+        }
+        if cap <= len {
+            return refused(6, self);
+        }
+        let front = slots::slot(cap, head, cap - 1);
+        slots[front] = x;
+        done(0, 0, front, len + 1)
+    }
+
+    pub fn pop_back(self, slots: &mut [u32]) -> Answer
+        ensures { λ r. ⌜ seen r (now (slots .exit)) ≡ does ring pop (tray self (now (slots .entry))) ⌝ }
+    {
+        let cap = slots.len();
+        let head = self.head;
+        let len = self.len;
+        if table::invalid_ring(cap, head, len) {
+            return refused(1, self);
+        }
+        if len == 0 {
+            return refused(4, self);
+        }
+        let at = slots::slot(cap, head, len - 1);
+        let old = slots[at];
+        slots[at] = 0;
+        done(old, 0, head, len - 1)
+    }
+
+    pub fn pop_front(self, slots: &mut [u32]) -> Answer
+        ensures { λ r. ⌜ seen r (now (slots .exit)) ≡ does ring popFront (tray self (now (slots .entry))) ⌝ }
+    {
+        let cap = slots.len();
+        let head = self.head;
+        let len = self.len;
+        if table::invalid_ring(cap, head, len) {
+            return refused(1, self);
+        }
+        if len == 0 {
+            return refused(4, self);
+        }
+        let old = slots[head];
+        slots[head] = 0;
+        done(old, 0, slots::slot(cap, head, 1), len - 1)
+    }
+
+    // The fewer entries are carried: those before i, or those from i on.
+    pub fn insert(self, slots: &mut [u32], i: usize, x: u32) -> Answer
+        ensures { λ r. ⌜ seen r (now (slots .exit)) ≡ does ring (insert i x) (tray self (now (slots .entry))) ⌝ }
+    {
+        let cap = slots.len();
+        let head = self.head;
+        let len = self.len;
+        if table::invalid_ring(cap, head, len) {
+            return refused(1, self);
+        }
+        if len < i {
+            return refused(3, self);
+        }
+        if cap <= len {
+            return refused(6, self);
+        }
+        if i < len - i {
+            let front = slots::slot(cap, head, cap - 1);
+            slots::shift_down(slots, front, 0, i);
+            let at = slots::slot(cap, front, i);
+            slots[at] = x;
+            return done(0, i, front, len + 1);
+        }
+        slots::shift_up(slots, head, i, len);
+        let at = slots::slot(cap, head, i);
+        slots[at] = x;
+        done(0, len - i, head, len + 1)
+    }
+
+    // The fewer entries are carried: those before i, or those after.
+    pub fn remove(self, slots: &mut [u32], i: usize) -> Answer
+        ensures { λ r. ⌜ seen r (now (slots .exit)) ≡ does ring (remove i) (tray self (now (slots .entry))) ⌝ }
+    {
+        let cap = slots.len();
+        let head = self.head;
+        let len = self.len;
+        if table::invalid_ring(cap, head, len) {
+            return refused(1, self);
+        }
+        if len <= i {
+            return refused(3, self);
+        }
+        let last = len - 1;
+        let at = slots::slot(cap, head, i);
+        let old = slots[at];
+        if i < last - i {
+            slots::shift_up(slots, head, 0, i);
+            slots[head] = 0;
+            return done(old, i, slots::slot(cap, head, 1), last);
+        }
+        slots::shift_down(slots, head, i, last);
+        let freed = slots::slot(cap, head, last);
+        slots[freed] = 0;
+        done(old, last - i, head, last)
+    }
+
+    // A ring on no slots has no slot for its head: where there is nothing to fill, here and below, that is a return of its own.
+    pub fn truncate(self, slots: &mut [u32], k: usize) -> Answer
+        ensures { λ r. ⌜ seen r (now (slots .exit)) ≡ does ring (truncate k) (tray self (now (slots .entry))) ⌝ }
+    {
+        let cap = slots.len();
+        let head = self.head;
+        let len = self.len;
+        if table::invalid_ring(cap, head, len) {
+            return refused(1, self);
+        }
+        if len <= k {
+            return done(0, 0, head, len);
+        }
+        slots::fill(slots, head, k, len, 0); // a free slot keeps what it held
+        done(0, 0, head, k)
+    }
+
+    pub fn resize(self, slots: &mut [u32], k: usize, x: u32) -> Answer
+        ensures { λ r. ⌜ seen r (now (slots .exit)) ≡ does ring (resize k x) (tray self (now (slots .entry))) ⌝ }
+    {
+        let cap = slots.len();
+        let head = self.head;
+        let len = self.len;
+        if table::invalid_ring(cap, head, len) {
+            return refused(1, self);
+        }
+        if cap < k {
+            return refused(6, self);
+        }
+        if k < len {
+            slots::fill(slots, head, k, len, 0);
+            return done(0, 0, head, k);
+        }
+        if len < k {
+            slots::fill(slots, head, len, k, x);
+            return done(0, 0, head, k);
+        }
+        done(0, 0, head, len)
+    }
+
+    pub fn clear(self, slots: &mut [u32]) -> Answer
+        ensures { λ r. ⌜ seen r (now (slots .exit)) ≡ does ring clear (tray self (now (slots .entry))) ⌝ }
+    {
+        let cap = slots.len();
+        let head = self.head;
+        let len = self.len;
+        if table::invalid_ring(cap, head, len) {
+            return refused(1, self);
+        }
+        if len == 0 {
+            return done(0, 0, 0, 0);
+        }
+        slots::fill(slots, head, 0, len, 0);
+        done(0, 0, 0, 0)
+    }
+}
+
+fn refused(number: u8, ring: Ring) -> Answer
+    ensures { λ r. ⌜ r ≡ refusing number ring ⌝ }
+{
+    Answer {
+        number,
+        value: 0,
+        moves: 0,
+        ring,
+    }
+}
+
+fn done(value: u32, moves: usize, head: usize, len: usize) -> Answer
+    ensures { λ r. ⌜ r ≡ giving value moves head len ⌝ }
+{
+    Answer {
+        number: 0,
+        value,
+        moves,
+        ring: Ring { head, len },
+    }
+}

@@ -1,2 +1,4 @@
--- The laws that the proofs of the ring's functions cite, and what ties its calls to demand 3.
+-- The laws that the proofs of the ring's functions cite, what ties its calls to demand 3, and that each has one answer.
 pub mod Told
+pub mod Ours
+pub mod Once

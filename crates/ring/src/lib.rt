@@ -1,7 +1,8 @@
 // A ring of entries in lent slots. Each call's promise is its row of the table: what is seen of it is what the table says.
 ghost use mathlib.Core.Path.{_≡_};
 ghost use Rattle.slots.specs.Layout.{ring};
-ghost use Rattle.table.specs.Calls.{new, withCapacity, look, len, read, reserve, write, push, pushFront, pop, popFront, insert, remove, truncate, resize, clear};
+ghost use Rattle.table.specs.Calls.{new, withCapacity, look, len, read, reserve};
+ghost use Rattle.table.specs.Calls.{write, push, pushFront, pop, popFront, insert, remove, truncate, resize, clear};
 ghost use Rattle.table.specs.Does.{does, made};
 ghost use Rattle.ring.specs.Seen.{tray, seen, refusing, giving};
 

@@ -10,6 +10,7 @@ pub mod Walks
 pub mod Stores
 pub mod Shifted
 pub mod Cut
+pub mod VectorDone
 pub mod Done2
 pub mod Trays
 pub mod Worked

@@ -1,0 +1,22 @@
+-- `Vector::ask_range` meets its promise. Assumes nothing.
+use borrow.Author.Needs.{needs}
+use Rattle.table.specs.Does.{does}
+use Rattle.table.proofs.Looks.{range-done}
+use Rattle.vector.proofs.Told.{refusals, shown}
+use Rattle.vector.proofs.Vector.ask_range.Statement.{statement}
+use Rattle.vector.proofs.Vector.ask_range.Tie as tie
+
+pub ask-range-spec : {M : Type 1} → statement M
+unfolding does
+ask-range-spec =
+    tie.close
+    (tie.spec
+    (λ c κs. search needs)
+    (λ c κs. search needs)
+    (λ c. search refusals)
+    (λ c κs. search needs)
+    (λ c. search refusals)
+    (λ c κs. search needs)
+    (λ c. search refusals)
+    (λ c κs. search needs)
+    (λ c. search (range-done, shown)))

@@ -1,0 +1,21 @@
+-- `Vector::from_elem` meets its promise. Assumes nothing.
+use borrow.Author.Needs.{needs}
+use Rattle.table.specs.Does.{made}
+use Rattle.table.proofs.Made.{from-elem-done}
+use Rattle.vector.proofs.Told.{refusals, shown}
+use Rattle.vector.proofs.Vector.from_elem.Statement.{statement}
+use Rattle.vector.proofs.Vector.from_elem.Tie as tie
+
+pub from-elem-spec : {M : Type 1} → statement M
+unfolding made
+from-elem-spec =
+    tie.close
+    (tie.spec
+    (λ c κs. search needs)
+    (λ c. search refusals)
+    (λ c κs. search needs)
+    (λ c. search refusals)
+    (λ c κs. search needs)
+    (λ c κs. search needs)
+    (λ c. search needs)
+    (λ c. search (from-elem-done, shown)))

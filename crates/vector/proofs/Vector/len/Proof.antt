@@ -1,0 +1,20 @@
+-- `Vector::len` meets its promise. Assumes nothing.
+use borrow.Author.Needs.{needs}
+use Rattle.table.specs.Does.{does}
+use Rattle.table.proofs.Valid.{state}
+use Rattle.table.proofs.Looks.{len-done}
+use Rattle.vector.proofs.Told.{refusals, shown}
+use Rattle.vector.proofs.Vector.len.Statement.{statement}
+use Rattle.vector.proofs.Vector.len.Tie as tie
+
+pub len-spec : {M : Type 1} → statement M
+unfolding does
+len-spec =
+    tie.close
+    (tie.spec
+    (λ c κs. search needs)
+    (λ c κs. search needs)
+    (λ c. search refusals)
+    (λ c. omega state)
+    (λ c κs. search needs)
+    (λ c. search (len-done, shown)))

@@ -1,0 +1,24 @@
+-- `Vector::push` meets its promise. Assumes nothing.
+use borrow.Author.Needs.{needs}
+use Rattle.table.specs.Does.{does}
+use Rattle.table.proofs.Stores.{vector-push-done}
+use Rattle.vector.proofs.Told.{refusals, shown}
+use Rattle.vector.proofs.Vector.push.Statement.{statement}
+use Rattle.vector.proofs.Vector.push.Tie as tie
+
+pub push-spec : {M : Type 1} → statement M
+unfolding does
+push-spec =
+    tie.close
+    (tie.spec
+    (λ c κs. search needs)
+    (λ c κs. search needs)
+    (λ c. search refusals)
+    (λ c κs. search needs)
+    (λ c. search refusals)
+    (λ c. search needs)
+    (λ c. search needs)
+    (λ c. search needs)
+    (λ c κs. search needs)
+    (λ c. search needs)
+    (λ c. search (vector-push-done, shown)))

@@ -1,0 +1,29 @@
+-- `Vector::remove` meets its promise. Assumes nothing.
+use borrow.Author.Needs.{needs}
+use Rattle.table.specs.Does.{does}
+use Rattle.table.proofs.Valid.{state}
+use Rattle.table.proofs.Shifted.{vector-remove-done}
+use Rattle.vector.proofs.Told.{refusals, shown}
+use Rattle.vector.proofs.Vector.remove.Statement.{statement}
+use Rattle.vector.proofs.Vector.remove.Tie as tie
+
+pub remove-spec : {M : Type 1} → statement M
+unfolding does
+remove-spec =
+    tie.close
+    (tie.spec
+    (λ c κs. search needs)
+    (λ c κs. search needs)
+    (λ c. search refusals)
+    (λ c κs. search needs)
+    (λ c. search refusals)
+    (λ c. search needs)
+    (λ c. omega state)
+    (λ c. omega state)
+    (λ c κs. omega state)
+    (λ c. omega state)
+    (λ c. omega state)
+    (λ c. search needs)
+    (λ c κs. search needs)
+    (λ c. search needs)
+    (λ c. search (vector-remove-done, shown)))

@@ -1,0 +1,22 @@
+-- `Vector::try_reserve_exact` meets its promise. Assumes nothing.
+use borrow.Author.Needs.{needs}
+use Rattle.table.specs.Does.{does}
+use Rattle.table.proofs.Valid.{state}
+use Rattle.table.proofs.Looks.{try-exact-done}
+use Rattle.vector.proofs.Told.{refusals, shown}
+use Rattle.vector.proofs.Vector.try_reserve_exact.Statement.{statement}
+use Rattle.vector.proofs.Vector.try_reserve_exact.Tie as tie
+
+pub try-reserve-exact-spec : {M : Type 1} → statement M
+unfolding does
+try-reserve-exact-spec =
+    tie.close
+    (tie.spec
+    (λ c κs. search needs)
+    (λ c κs. search needs)
+    (λ c. search refusals)
+    (λ c. omega state)
+    (λ c κs. search needs)
+    (λ c. search refusals)
+    (λ c κs. search needs)
+    (λ c. search (try-exact-done, shown)))

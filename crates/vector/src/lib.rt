@@ -1,5 +1,6 @@
 // A vector of entries in lent slots. Each call's promise is its row of the table.
 pub mod looks; // looks.rt: the makings, and the calls that change nothing
+pub mod parts; // parts.rt: the parts of the slots that are lent on
 
 ghost use mathlib.Core.Path.{_≡_};
 ghost use Rattle.slots.specs.Layout.{vector};

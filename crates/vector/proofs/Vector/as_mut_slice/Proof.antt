@@ -1,0 +1,20 @@
+-- `Vector::as_mut_slice` meets its promise. Assumes nothing.
+use borrow.Author.Needs.{needs}
+use Rattle.table.proofs.Valid.{state}
+use Rattle.vector.proofs.Lending.{all-within, lending}
+use Rattle.vector.proofs.Vector.as_mut_slice.Statement.{statement}
+use Rattle.vector.proofs.Vector.as_mut_slice.Tie as tie
+
+pub as-mut-slice-spec : {M : Type 1} → statement M
+as-mut-slice-spec =
+    tie.close
+    (tie.spec
+    (λ c κs. search needs)
+    (λ c. search needs)
+    (λ c. search needs)
+    (λ c. search needs)
+    (λ c. search lending)
+    (λ c. search needs)
+    (λ c. search needs)
+    (λ c. omega state)
+    (λ c. search (all-within, lending)))

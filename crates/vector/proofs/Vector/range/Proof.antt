@@ -1,0 +1,28 @@
+-- `Vector::range` meets its promise. Assumes nothing.
+use borrow.Author.Needs.{needs}
+use Rattle.table.proofs.Valid.{state}
+use Rattle.vector.proofs.Lending.{lending}
+use Rattle.vector.proofs.Vector.range.Statement.{statement}
+use Rattle.vector.proofs.Vector.range.Tie as tie
+
+pub range-spec : {M : Type 1} → statement M
+range-spec =
+    tie.close
+    (tie.spec
+    (λ c κs. search needs)
+    (λ c. search needs)
+    (λ c. search needs)
+    (λ c. search needs)
+    (λ c. search lending)
+    (λ c. search needs)
+    (λ c. search needs)
+    (λ c. search needs)
+    (λ c. search lending)
+    (λ c. search needs)
+    (λ c. search needs)
+    (λ c. search needs)
+    (λ c. search lending)
+    (λ c. omega state)
+    (λ c. search needs)
+    (λ c. omega state)
+    (λ c. search lending))

@@ -1,0 +1,60 @@
+// The parts of a vector's slots that are lent on: no number goes with them, `ask_range` answers for the same state and range.
+use super::Vector;
+ghost use Rattle.table.specs.Parts.{lends, lendsAll};
+ghost use Rattle.vector.specs.Seen.{tray};
+ghost use Rattle.vector.specs.Lent.{Lent};
+
+impl Vector {
+    // The entries a to b; an empty range too lies at its own slot.
+    pub fn range(self, slots: &[u32], a: usize, b: usize) -> &[u32]
+        ensures { λ r. ⌜ Lent (lends a b (tray self (now (slots .entry)))) (slots .entry) r ⌝ }
+    {
+        let len = self.len;
+        if table::invalid_vector(slots.len(), len) {
+            return &slots[0..0];
+        }
+        if b < a {
+            return &slots[0..0];
+        }
+        if len < b {
+            return &slots[0..0];
+        }
+        &slots[a..b]
+    }
+
+    pub fn as_slice(self, slots: &[u32]) -> &[u32]
+        ensures { λ r. ⌜ Lent (lendsAll (tray self (now (slots .entry)))) (slots .entry) r ⌝ }
+    {
+        let len = self.len;
+        self.range(slots, 0, len)
+    }
+
+    pub fn as_ref(self, slots: &[u32]) -> &[u32]
+        ensures { λ r. ⌜ Lent (lendsAll (tray self (now (slots .entry)))) (slots .entry) r ⌝ }
+    {
+        self.as_slice(slots)
+    }
+
+    pub fn deref(self, slots: &[u32]) -> &[u32]
+        ensures { λ r. ⌜ Lent (lendsAll (tray self (now (slots .entry)))) (slots .entry) r ⌝ }
+    {
+        self.as_slice(slots)
+    }
+
+    // For writing: slots 0 to n and no more.
+    pub fn as_mut_slice(self, slots: &mut [u32]) -> &mut [u32]
+        ensures { λ r. ⌜ Lent (lendsAll (tray self (now (slots .entry)))) (slots .entry) r ⌝ }
+    {
+        let len = self.len;
+        if table::invalid_vector(slots.len(), len) {
+            return &mut slots[0..0];
+        }
+        &mut slots[0..len]
+    }
+
+    pub fn deref_mut(self, slots: &mut [u32]) -> &mut [u32]
+        ensures { λ r. ⌜ Lent (lendsAll (tray self (now (slots .entry)))) (slots .entry) r ⌝ }
+    {
+        self.as_mut_slice(slots)
+    }
+}

@@ -1,0 +1,3 @@
+-- The laws on hexadecimal text that the crates above cite.
+pub mod Puts
+pub mod Digits

@@ -1,0 +1,34 @@
+-- `put_hex` meets its promise: what is put, with the digits that are left put before it, is always the whole. Assumes nothing.
+use Prim.Native.Nat.{_≤_}
+use mathlib.Core.Path.{_≡_, refl}
+use native.Mathlib.Omega.{arith}
+use borrow.Author.Needs.{needs}
+use lib.ListN.{length, length-set}
+use Rattle.hex.specs.Hex.{hex}
+use Rattle.hex.specs.Put.{put}
+use Rattle.hex.proofs.Puts.{put-digit, put-none}
+use Rattle.hex.proofs.put_hex.Statement.{statement}
+use Rattle.hex.proofs.put_hex.Tie as tie
+
+abbrev Inv-loop : tie.InvT-loop
+Inv-loop text₀ at count x k₀ rest₀ text k rest = (k ≤ count) × (length text ≡ length text₀) × (put text at (hex k rest) ≡ put text₀ at (hex count x))
+
+abbrev μ-loop : tie.MeasureT-loop
+μ-loop text₀ at count x k₀ rest₀ text k rest = k
+
+pub put-hex-spec : {M : Type 1} → statement M
+put-hex-spec =
+    tie.close
+    (tie.spec
+    Inv-loop
+    μ-loop
+    (λ c. search needs)
+    (λ c. search needs)
+    (λ c. search needs)
+    (λ c κs. search needs)
+    (λ c. search needs)
+    (λ c. search needs)
+    (λ c. search needs)
+    (λ c. search (put-digit, needs))
+    (λ c. search needs)
+    (λ c. search (put-none, needs)))

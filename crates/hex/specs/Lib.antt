@@ -1,0 +1,3 @@
+-- What the promises on hexadecimal text cite.
+pub mod Hex
+pub mod Put

@@ -10,7 +10,7 @@ abbrev pub digit : ℕ → ℕ
 digit d = cond (ltb d 10) (48 + d) (87 + d)
 
 -- n digits that say x, of which the n lowest are kept
-abbrev pub hex : (n x : ℕ) → List ℕ
+unfoldable pub hex : (n x : ℕ) → List ℕ
 hex zero x = []
 hex (suc n) x = hex n (x / 16) ++ (digit (x % 16) ∷ [])
 

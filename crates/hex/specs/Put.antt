@@ -3,6 +3,6 @@ use Prim.Native.Nat.{ℕ, _+_}
 use mathlib.Core.List.{List, [], _∷_}
 use lib.ListN.{set}
 
-abbrev pub put : (text : List ℕ) (at : ℕ) (s : List ℕ) → List ℕ
+unfoldable pub put : (text : List ℕ) (at : ℕ) (s : List ℕ) → List ℕ
 put text at [] = text
 put text at (b ∷ s) = put (set text at b) (at + 1) s

@@ -1,0 +1,102 @@
+-- The lines of a stored text, put one after another, are the whole text; and how long it is. Assumes nothing.
+use mathlib.Core.Path.{_≡_, refl, sym, ap, _∙_}
+use mathlib.Core.List.{List, [], _∷_, _++_}
+use Prim.Native.Nat.{ℕ, _+_, _*_, _≤_, _<_}
+use native.Mathlib.Numerals.{add-one}
+use native.Mathlib.Omega.{arith}
+use lib.ListN.{length, getD, set, drop, length-append, drop-of-length-le}
+use lib.Seq.{drop-cons}
+use Rattle.slots.specs.Layout.{Kind}
+use Rattle.table.specs.Tray.{Tray, cap}
+use Rattle.table.specs.Does.{headIn}
+use Rattle.hex.specs.Hex.{hex, lf, atStart}
+use Rattle.hex.specs.Put.{put}
+use Rattle.hex.proofs.Puts.{put-one, put-join, put-start, length-hex}
+use Rattle.stored.specs.Form.{kindByte, stateDigits, firstLine, slotLine, slotLines, form, size}
+
+-- n digits, and what is put right after them
+after-hex : (text : List ℕ) (at n x k : ℕ) (s : List ℕ) → at + n ≡ k → put (put text at (hex n x)) k s ≡ put text at (hex n x ++ s)
+after-hex text at n x k s e = ap (λ k. put (put text at (hex n x)) k s) (sym (ap (λ m. at + m) (length-hex n x) ∙ e)) ∙ put-join text at (hex n x) s
+
+-- the numbers of the first line, each where the one before it ends
+pub state-put : (text a b e : List ℕ) (cap head len : ℕ) → a ≡ put text 4 (hex 4 cap) → b ≡ put a 8 (hex 4 head) → e ≡ put b 12 (hex 4 len)
+    → set e 16 10 ≡ put text 4 (stateDigits cap head len)
+unfolding stateDigits
+state-put text a b e cap head len ea eb ee =
+    let s2 : List ℕ = hex 4 len ++ (lf ∷ []) in
+    let s1 : List ℕ = hex 4 head ++ s2 in
+    ap (λ t. set t 16 10) ee
+    ∙ sym (put-one (put b 12 (hex 4 len)) 16 10)
+    ∙ after-hex b 12 4 len 16 (lf ∷ []) refl
+    ∙ ap (λ t. put t 12 s2) eb
+    ∙ after-hex a 8 4 head 12 s2 refl
+    ∙ ap (λ t. put t 8 s1) ea
+    ∙ after-hex text 4 4 cap 8 s1 refl
+
+pub first-put : (text a b e : List ℕ) (kind cap head len : ℕ) → a ≡ put text 0 (hex 2 kind) → b ≡ put a 2 (hex 2 0) → e ≡ put b 4 (stateDigits cap head len)
+    → e ≡ put text 0 (firstLine kind cap head len)
+unfolding firstLine
+first-put text a b e kind cap head len ea eb ee =
+    ee
+    ∙ ap (λ t. put t 4 (stateDigits cap head len)) eb
+    ∙ after-hex a 2 2 0 4 (stateDigits cap head len) refl
+    ∙ ap (λ t. put t 2 (hex 2 0 ++ stateDigits cap head len)) ea
+    ∙ after-hex text 0 2 kind 2 (hex 2 0 ++ stateDigits cap head len) refl
+
+length-slot-line : (x : ℕ) → length (slotLine x) ≡ 9
+unfolding slotLine
+length-slot-line x = length-append (hex 8 x) (lf ∷ []) ∙ omega (arith, length-hex 8 x)
+
+-- a slot's digits and their end are its line
+pub line-put : (text mid : List ℕ) (at x : ℕ) → mid ≡ put text at (hex 8 x) → set mid (at + 8) 10 ≡ put text at (slotLine x)
+unfolding slotLine
+line-put text mid at x em = ap (λ t. set t (at + 8) 10) em ∙ sym (put-one (put text at (hex 8 x)) (at + 8) 10) ∙ after-hex text at 8 x (at + 8) (lf ∷ []) refl
+
+-- one more slot's line
+pub slots-turn : (slots text mid all : List ℕ) (i at : ℕ) → put text at (slotLines (drop i slots)) ≡ all → i < length slots
+    → mid ≡ put text at (slotLine (getD slots i 0)) → put mid (at + 9) (slotLines (drop (i + 1) slots)) ≡ all
+unfolding slotLines
+slots-turn slots text mid all i at is lt em =
+    let x : ℕ = getD slots i 0 in
+    let left : drop i slots ≡ x ∷ drop (i + 1) slots = rw (add-one, drop-cons slots i 0) in
+    let rest : List ℕ = slotLines (drop (i + 1) slots) in
+    ap (λ t. put t (at + 9) rest) em
+    ∙ ap (λ m. put (put text at (slotLine x)) (at + m) rest) (sym (length-slot-line x))
+    ∙ put-join text at (slotLine x) rest
+    ∙ sym (ap (λ s. put text at (slotLines s)) left)
+    ∙ is
+
+pub slots-end : (slots text all : List ℕ) (i at : ℕ) → put text at (slotLines (drop i slots)) ≡ all → length slots ≤ i → text ≡ all
+unfolding put slotLines
+slots-end slots text all i at is le = sym (ap (λ s. put text at (slotLines s)) (drop-of-length-le slots {i = i} le)) ∙ is
+
+-- how long the lines are
+pub length-first : (kind c h n : ℕ) → length (firstLine kind c h n) ≡ 17
+unfolding firstLine stateDigits
+length-first kind c h n =
+    simp length-append (omega (arith, length-hex 2 kind, length-hex 2 0, length-hex 4 c, length-hex 4 h, length-hex 4 n))
+
+pub length-slots : (slots : List ℕ) → length (slotLines slots) ≡ 9 * length slots
+unfolding slotLines
+length-slots [] = refl
+length-slots (x ∷ slots) = length-append (slotLine x) (slotLines slots) ∙ omega (arith, length-slot-line x, length-slots slots)
+
+-- THE TEXT TAKES 17 + 9c BYTES.
+pub length-form : (k : Kind) (t : Tray) → length (form k t) ≡ size (cap t)
+unfolding form
+length-form k t =
+    length-append (firstLine (kindByte k) (cap t) (headIn k (t .head)) (t .len)) (slotLines (t .slots))
+    ∙ omega (arith, length-first (kindByte k) (cap t) (headIn k (t .head)) (t .len), length-slots (t .slots))
+
+-- the first line and the slots' lines, put one after the other, are the form at the start of the text
+pub form-put : (k : Kind) (t : Tray) (text mid : List ℕ) → size (cap t) ≤ length text
+    → mid ≡ put text 0 (firstLine (kindByte k) (cap t) (headIn k (t .head)) (t .len)) → put mid 17 (slotLines (t .slots)) ≡ atStart (form k t) text
+unfolding form
+form-put k t text mid room em =
+    let first : List ℕ = firstLine (kindByte k) (cap t) (headIn k (t .head)) (t .len) in
+    let whole : List ℕ = first ++ slotLines (t .slots) in
+    let fits : length whole ≤ length text = omega (arith, length-form k t) in
+    ap (λ t′. put t′ 17 (slotLines (t .slots))) em
+    ∙ ap (λ m. put (put text 0 first) m (slotLines (t .slots))) (omega (arith, length-first (kindByte k) (cap t) (headIn k (t .head)) (t .len)))
+    ∙ put-join text 0 first (slotLines (t .slots))
+    ∙ put-start text whole fits

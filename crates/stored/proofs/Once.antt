@@ -1,0 +1,46 @@
+-- The writer's promise leaves one answer and one content of the text: from each function's generated contract. Assumes nothing.
+use mathlib.Core.Path.{_≡_, refl, sym, ap, _∙_}
+use mathlib.Core.List.{List}
+use Prim.Native.Nat.{ℕ}
+use contract.Lifetimes.{Lfts}
+use denote.Ref.{now}
+use denote.Triple.Clauses.{AtExit}
+use borrow.Fn.World.{ArgsD, ResD}
+use Rattle.ring.specs.declared.Answer as ringAnswer
+use Rattle.vector.specs.declared.Answer as vectorAnswer
+use Rattle.stored.specs.Written.{Written}
+use Rattle.stored.specs.Seen.{seenRing, seenVector}
+use Rattle.stored.proofs.ring_text as ring-text·fn
+use Rattle.stored.proofs.ring_text.Reads as ring-text·reads
+use Rattle.stored.proofs.vector_text as vector-text·fn
+use Rattle.stored.proofs.vector_text.Reads as vector-text·reads
+
+-- `read` gives the answer back from what is seen of it
+one : {A : Type 0} (seen : A → List ℕ → Written) (read : Written → A) → ((a : A) (text : List ℕ) → read (seen a text) ≡ a)
+    → ((a : A) (text : List ℕ) → seen a text .text ≡ text)
+    → (w : Written) (a a′ : A) (text text′ : List ℕ) → seen a text ≡ w → seen a′ text′ ≡ w → (a ≡ a′) × (text ≡ text′)
+one seen read back kept w a a′ text text′ p q = (
+  sym (back a text) ∙ ap read (p ∙ sym q) ∙ back a′ text′,
+  sym (kept a text) ∙ ap (λ (w : Written). w .text) (p ∙ sym q) ∙ kept a′ text′,
+)
+
+abbrev ringBack : Written → ringAnswer.Answer
+ringBack w = record {
+  number = w .outcome .number;
+  value = w .outcome .value;
+  moves = w .outcome .moves;
+  ring = record { head = w .outcome .tray .head; len = w .outcome .tray .len };
+}
+
+abbrev vectorBack : Written → vectorAnswer.Answer
+vectorBack w =
+    record { number = w .outcome .number; value = w .outcome .value; moves = w .outcome .moves; vector = record { len = w .outcome .tray .len } }
+
+module _ (κs : Lfts 2) where
+  pub ring-text-once : (a : ArgsD ring-text·fn.signature κs) (r r′ : ResD ring-text·fn.signature κs) (e e′ : AtExit ring-text·fn.ended κs)
+      → ring-text·reads.Learnt κs a r e → ring-text·reads.Learnt κs a r′ e′ → (r ≡ r′) × (now (e .1 .1 .0) ≡ now (e′ .1 .1 .0))
+  ring-text-once a r r′ e e′ p q = one (λ r text. seenRing r (now (a .1 .0)) text) ringBack (λ r text. refl) (λ r text. refl) _ r r′ _ _ p q
+
+  pub vector-text-once : (a : ArgsD vector-text·fn.signature κs) (r r′ : ResD vector-text·fn.signature κs) (e e′ : AtExit vector-text·fn.ended κs)
+      → vector-text·reads.Learnt κs a r e → vector-text·reads.Learnt κs a r′ e′ → (r ≡ r′) × (now (e .1 .1 .0) ≡ now (e′ .1 .1 .0))
+  vector-text-once a r r′ e e′ p q = one (λ r text. seenVector r (now (a .1 .0)) text) vectorBack (λ r text. refl) (λ r text. refl) _ r r′ _ _ p q

@@ -1,0 +1,4 @@
+-- What the promises on stored texts cite.
+pub mod Form
+pub mod Written
+pub mod Seen

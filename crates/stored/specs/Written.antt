@@ -1,0 +1,25 @@
+-- What the writer of the stored form gives: the answer with the container as it was, and the text afterwards. Assumes nothing.
+use Prim.Native.Nat.{ℕ}
+use mathlib.Core.Bool.{Bool}
+use mathlib.Core.List.{List, [], _∷_}
+use lib.ListN.{length}
+use lib.Dec.{ltb}
+use Rattle.slots.specs.Layout.{Kind}
+use Rattle.table.specs.Tray.{Tray, cap, invalid, nowhere}
+use Rattle.table.specs.Table.{Refusal, firstInvalid, full}
+use Rattle.table.specs.Does.{Outcome, refused, gives, firstRefusal}
+use Rattle.hex.specs.Hex.{atStart}
+use Rattle.stored.specs.Form.{form, size}
+
+-- what is seen of the call: its outcome, and every byte of the lent text
+pub record Written : Type 0 where
+  pub outcome : Outcome
+  pub text : List ℕ
+
+-- 1 for an invalid container, then 6 for a text too short, nothing written; else the form, the bytes after it as they were, and its length
+unfoldable pub writes : Kind → Tray → (text : List ℕ) → Written
+writes k t text =
+    firstRefusal
+    (λ number. record { outcome = refused t nowhere number; text = text })
+    ((invalid k t, firstInvalid) ∷ (ltb (length text) (size (cap t)), full) ∷ [])
+    (record { outcome = gives (size (cap t)) 0 (t .head) (t .len) (t .slots); text = atStart (form k t) text })

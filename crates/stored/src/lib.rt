@@ -1,0 +1,116 @@
+// The stored form: a container written as lines of hexadecimal digits into a lent text.
+use ring::Ring;
+use vector::Vector;
+ghost use mathlib.Core.Path.{_≡_};
+ghost use Prim.Native.Nat.{_+_, _*_, _≤_};
+ghost use lib.ListN.{length};
+ghost use Rattle.slots.specs.Layout.{ring, vector};
+ghost use Rattle.hex.specs.Put.{put};
+ghost use Rattle.ring.specs.Seen as rings;
+ghost use Rattle.vector.specs.Seen as vectors;
+ghost use Rattle.stored.specs.Form.{firstLine, stateDigits, slotLine, slotLines};
+ghost use Rattle.stored.specs.Written.{writes};
+ghost use Rattle.stored.specs.Seen.{seenRing, seenVector, ringSays, vectorSays};
+
+// The end of the first line: a capacity, a head and a length.
+fn put_state(text: &mut [u8], cap: usize, head: usize, len: usize)
+    requires { ⌜ 17 ≤ length (now text) ⌝ }
+    ensures { λ _. ⌜ now (text .exit) ≡ put (now (text .entry)) 4 (stateDigits cap head len) ⌝ }
+{
+    hex::put_hex(text, 4, 4, cap as u64);
+    hex::put_hex(text, 8, 4, head as u64);
+    hex::put_hex(text, 12, 4, len as u64);
+    text[16] = 10;
+}
+
+// The first line, of a kind, a capacity, a head and a length.
+fn put_first(text: &mut [u8], kind: u64, cap: usize, head: usize, len: usize)
+    requires { ⌜ 17 ≤ length (now text) ⌝ }
+    ensures { λ _. ⌜ now (text .exit) ≡ put (now (text .entry)) 0 (firstLine kind cap head len) ⌝ }
+{
+    hex::put_hex(text, 0, 2, kind);
+    hex::put_hex(text, 2, 2, 0);
+    put_state(text, cap, head, len);
+}
+
+// A slot's line, from a place on.
+fn put_line(text: &mut [u8], at: usize, x: u32)
+    requires { ⌜ at + 9 ≤ length (now text) ⌝ }
+    ensures { λ _. ⌜ now (text .exit) ≡ put (now (text .entry)) at (slotLine x) ⌝ }
+{
+    hex::put_hex(text, at, 8, x as u64);
+    text[at + 8] = 10;
+}
+
+// A line for each slot, after the first line.
+fn put_slots(text: &mut [u8], slots: &[u32])
+    requires { ⌜ 17 + 9 * length (now slots) ≤ length (now text) ⌝ }
+    ensures { λ _. ⌜ now (text .exit) ≡ put (now (text .entry)) 17 (slotLines (now (slots .entry))) ⌝ }
+{
+    let mut i = 0;
+    let mut at = 17;
+    while i < slots.len() {
+        put_line(text, at, slots[i]);
+        at += 9;
+        i += 1;
+    }
+}
+
+// A ring's stored form, at the start of the text.
+pub fn ring_text(over: Ring, slots: &[u32], text: &mut [u8]) -> ring::Answer
+    ensures { λ r. ⌜ seenRing r (now (slots .entry)) (now (text .exit)) ≡ writes ring (rings.tray over (now (slots .entry))) (now (text .entry)) ⌝ }
+{
+    let cap = slots.len();
+    let head = over.head;
+    let len = over.len;
+    if table::invalid_ring(cap, head, len) {
+        return ring_answer(1, 0, over);
+    }
+    let size = 17 + 9 * cap;
+    if text.len() < size {
+        return ring_answer(6, 0, over);
+    }
+    put_first(text, 0, cap, head, len);
+    put_slots(text, slots);
+    ring_answer(0, size as u32, over)
+}
+
+// A vector's stored form, at the start of the text. Its head is 0.
+pub fn vector_text(over: Vector, slots: &[u32], text: &mut [u8]) -> vector::Answer
+    ensures { λ r. ⌜ seenVector r (now (slots .entry)) (now (text .exit)) ≡ writes vector (vectors.tray over (now (slots .entry))) (now (text .entry)) ⌝ }
+{
+    let cap = slots.len();
+    let len = over.len;
+    if table::invalid_vector(cap, len) {
+        return vector_answer(1, 0, over);
+    }
+    let size = 17 + 9 * cap;
+    if text.len() < size {
+        return vector_answer(6, 0, over);
+    }
+    put_first(text, 1, cap, 0, len);
+    put_slots(text, slots);
+    vector_answer(0, size as u32, over)
+}
+
+fn ring_answer(number: u8, value: u32, ring: Ring) -> ring::Answer
+    ensures { λ r. ⌜ r ≡ ringSays number value ring ⌝ }
+{
+    ring::Answer {
+        number,
+        value,
+        moves: 0,
+        ring,
+    }
+}
+
+fn vector_answer(number: u8, value: u32, vector: Vector) -> vector::Answer
+    ensures { λ r. ⌜ r ≡ vectorSays number value vector ⌝ }
+{
+    vector::Answer {
+        number,
+        value,
+        moves: 0,
+        vector,
+    }
+}

@@ -3,13 +3,13 @@
 -- Assumes nothing.
 use Prim.Native.Nat.{ℕ, zero, suc, _+_, _-_, _≤_, _<_}
 use mathlib.Core.Path.{_≡_, refl, sym, ap, _∙_}
-use mathlib.Core.Bool.{Bool, true, false, cond}
+use mathlib.Core.Bool.{false, cond}
 use mathlib.Core.List.{List, [], _∷_, _++_, append-nil}
 use mathlib.Core.Logic.{⊎-elim}
 use native.Mathlib.Numerals.{add-one}
 use native.Mathlib.Omega.{arith}
 use lib.Dec.{ltb, eqb, eqb·zero-suc, eqb·suc-zero, eqb·suc-suc, leb·suc-zero, leb·suc-suc}
-use lib.ListN.{length, getD, take, drop, set, replicate, length-append, length-take, length-drop, length-set, length-replicate, List·getD-append}
+use lib.ListN.{length, getD, take, drop, replicate, length-append, length-take, length-drop, length-set, length-replicate, List·getD-append}
 use lib.Seq.{drop-nil, getD-take, getD-set-same, getD-set-other}
 use borrow.Author.Tests.{lt-ltb, le-ltb, eq-eqb, ne-eqb}
 use Rattle.slots.specs.Lists.{insertAt, removeAt, update}
@@ -52,31 +52,22 @@ true-of from carry l l′ f = record {
   apart = λ i j p hi hj ei ej. sym ((rw ei at (f i hi)) .2) ∙ (rw ej at (f j hj)) .2;
 }
 
--- Each way of carrying. Those who stay, and the first k, are told where they stand still.
-module _ (l l′ : List ℕ) where
-  stay-true : ((j : ℕ) → j < length l → (j < length l′) × (getD l′ j 0 ≡ getD l j 0)) → Carries stay l l′
-  stay-true h = true-of itself stay l l′ (λ j lt. (h j lt .0, h j lt .1, refl))
-
-  kept-true : (k : ℕ) → ((j : ℕ) → j < length l → j < k → (j < length l′) × (getD l′ j 0 ≡ getD l j 0)) → Carries (kept k) l l′
-  kept-true k h =
-      true-of itself (kept k) l l′ (λ j lt.
-      ⊎-elim
-      (λ (low : j < k). rw (lt-ltb j k low) (h j lt low .0, h j lt low .1, refl))
-      (λ (high : k ≤ j). rw (le-ltb j k high) tt)
-      (below? j k))
-
--- what stands before what is joined to it stays
-joined-true : (l s : List ℕ) → Carries stay l (l ++ s)
-joined-true l s = stay-true l (l ++ s) (λ j lt. (simp length-append (omega arith), List·getD-append l s 0 j lt))
-
+-- Each way of carrying: where the entries are the same, where more are joined to them, and where they are cut.
 same-true : (l : List ℕ) → Carries stay l l
-same-true l = stay-true l l (λ j lt. (lt, refl))
+same-true l = true-of itself stay l l (λ j lt. (lt, refl, refl))
+
+joined-true : (l s : List ℕ) → Carries stay l (l ++ s)
+joined-true l s = true-of itself stay l (l ++ s) (λ j lt. (simp length-append (omega arith), List·getD-append l s 0 j lt, refl))
 
 cut-true : (l s : List ℕ) (k : ℕ) → Carries (kept k) l (take k l ++ s)
 cut-true l s k =
-    kept-true l (take k l ++ s) k (λ j lt low.
+    true-of itself (kept k) l (take k l ++ s) (λ j lt.
+    ⊎-elim
+    (λ (low : j < k).
     let short : j < length (take k l) = simp length-take (omega arith) in
-    (simp length-append (omega arith), List·getD-append (take k l) s 0 j short ∙ getD-take k l j 0 low))
+    rw (lt-ltb j k low) (simp length-append (omega arith), List·getD-append (take k l) s 0 j short ∙ getD-take k l j 0 low, refl))
+    (λ (high : k ≤ j). rw (le-ltb j k high) tt)
+    (below? j k))
 
 insert-true : (l : List ℕ) (i x : ℕ) → i ≤ length l → Carries (inserted i) l (insertAt l i x)
 insert-true l i x fits =

@@ -2,7 +2,6 @@
 pub mod Valid
 pub mod Refusals
 pub mod Moves
-pub mod Carrying
 pub mod Done
 pub mod Made
 pub mod Looks
@@ -22,6 +21,9 @@ pub mod WorkedKinds
 pub mod Run
 pub mod Order
 pub mod Rows
+pub mod Carrying
+pub mod Parts
+pub mod Offers
 pub mod Keeps
 pub mod Demand3
 pub mod Unique

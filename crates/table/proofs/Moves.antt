@@ -20,7 +20,7 @@ use Rattle.table.specs.Tray.{Tray, cap, list, invalid, nowhere}
 use Rattle.table.specs.Calls.{Call, push, pushFront, pop, popFront, insert, remove, swapRemove, write, truncate, resize, clear, extend, look, has}
 use Rattle.table.specs.Calls.{Call2, append, splitOff, clone, fromIter, same, equal, Making}
 use Rattle.table.specs.Table.{headBack, headOn, after, after2, begins, makes}
-use Rattle.table.specs.Does.{Outcome, Outcome2, refused, refused2, headIn, rowOf, rowOf2, refusalsOf, refusalsOf2, refusalsMade, done, done2, does, does2, bare, made}
+use Rattle.table.specs.Does.{Outcome, Outcome2, refused, refused2, rowOf, rowOf2, refusalsOf, refusalsOf2, refusalsMade, done, done2, does, does2, bare, made}
 use Rattle.table.specs.Ledger.{ifDone}
 use Rattle.table.proofs.Refusals.{Clear, either, if-refused}
 use Rattle.table.proofs.Valid.{fit, ring-inside}
@@ -135,18 +135,25 @@ module _ (t : Tray) (ok : invalid ring t ≡ false) where
       let head : does ring (remove i) t .tray .head ≡ t .head = rw (is, le-ltb _ _ far) in
       (head, λ j h. rw head (remove-each-high ring t ok i j h))
 
+-- A vector has no head to move: always the back.
+pub vector-insert-shifts : (t : Tray) → invalid vector t ≡ false → (i x : ℕ) → t .len < cap t → (j : ℕ) → j < t .len → shifts vector (insert i x) t j ≡ leb i j
+vector-insert-shifts t ok i x room j h = insert-each-high vector t ok i room j h
+
+pub vector-remove-shifts : (t : Tray) → invalid vector t ≡ false → (i j : ℕ) → j < t .len → shifts vector (remove i) t j ≡ ltb i j
+vector-remove-shifts t ok i j h = remove-each-high vector t ok i j h
+
 -- EVERY CALL: the moves of one that is done, on n entries.
-abbrev pub inRing : Kind → (shorter back : ℕ) → ℕ
-inRing ring shorter back = shorter
-inRing vector shorter back = back
+abbrev pub eachKind : Kind → (rings vectors : ℕ) → ℕ
+eachKind ring a b = a
+eachKind vector a b = b
 
 abbrev pub movesIn : Kind → (n : ℕ) → Call → ℕ
 movesIn k n (push x) = 0
 movesIn k n (pushFront x) = 0
 movesIn k n pop = 0
 movesIn k n popFront = 0
-movesIn k n (insert i x) = inRing k (min i (n - i)) (n - i)
-movesIn k n (remove i) = inRing k (min i (n - 1 - i)) (n - 1 - i)
+movesIn k n (insert i x) = eachKind k (min i (n - i)) (n - i)
+movesIn k n (remove i) = eachKind k (min i (n - 1 - i)) (n - 1 - i)
 movesIn k n (swapRemove i) = cond (eqb i (n - 1)) 0 1
 movesIn k n (write i x) = 0
 movesIn k n (truncate m) = 0
@@ -164,25 +171,25 @@ swap-moves k t ok i h =
     (λ (ne : i ≡ t .len - 1 → ⊥). rw (ne-eqb _ _ ne) (swap-moves-one _ (t .len) i h ne (λ e. ne (one-slot (f .placed) i (t .len - 1) (omega arith) (omega arith) e))))
     (same? i (t .len - 1))
 
-moves-done : (k : Kind) (t : Tray) (call : Call) → has call k ≡ true → (all : Clear (refusalsOf k call t))
+row-moves : (k : Kind) (t : Tray) (call : Call) → has call k ≡ true → (all : Clear (refusalsOf k call t))
     → done k t (after call (list k t)) (rowOf k call t) .moves ≡ movesIn k (t .len) call
-moves-done k t (push x) of e = rw (same-place k (cap t) (t .head)) (moved-stay _ (t .len))
-moves-done ring t (pushFront x) of e = insert-low t (e .0) 0 (omega arith) (omega passed-tests)
-moves-done vector t (pushFront x) of e = let z : _≡_ {A = ℕ} 0 1 = cc in absurd (omega arith)
-moves-done k t pop of e = rw (same-place k (cap t) (t .head)) (remove-high k t (e .0) (t .len - 1) (omega passed-tests) ∙ omega arith)
-moves-done ring t popFront of e = remove-low t (e .0) 0 (omega passed-tests)
-moves-done vector t popFront of e = let z : _≡_ {A = ℕ} 0 1 = cc in absurd (omega arith)
-moves-done ring t (insert i x) of e = sym (ap (λ o. o .moves) (done-is ring t (insert i x) (e .0) (e .1))) ∙ insert-moves t (e .0) i x (omega passed-tests) (omega passed-tests)
-moves-done vector t (insert i x) of e = insert-high vector t (e .0) i (omega passed-tests) (omega passed-tests)
-moves-done ring t (remove i) of e = sym (ap (λ o. o .moves) (done-is ring t (remove i) (e .0) (e .1))) ∙ remove-moves t (e .0) i (omega passed-tests)
-moves-done vector t (remove i) of e = remove-high vector t (e .0) i (omega passed-tests)
-moves-done k t (swapRemove i) of e = rw (same-place k (cap t) (t .head)) (swap-moves k t (e .0) i (omega passed-tests))
-moves-done k t (write i x) of e = rw (same-place k (cap t) (t .head)) (moved-replaced _ i (t .len))
-moves-done k t (truncate m) of e = rw (same-place k (cap t) (t .head)) (moved-kept _ m (t .len))
-moves-done k t (resize m x) of e = rw (same-place k (cap t) (t .head)) (moved-kept _ m (t .len))
-moves-done k t clear of e = moved-none _ _ (t .len)
-moves-done k t (extend s) of e = rw (same-place k (cap t) (t .head)) (moved-stay _ (t .len))
-moves-done k t (look q) of e = rw (same-place k (cap t) (t .head)) (moved-stay _ (t .len))
+row-moves k t (push x) of e = rw (same-place k (cap t) (t .head)) (moved-stay _ (t .len))
+row-moves ring t (pushFront x) of e = insert-low t (e .0) 0 (omega arith) (omega passed-tests)
+row-moves vector t (pushFront x) of e = let z : _≡_ {A = ℕ} 0 1 = cc in absurd (omega arith)
+row-moves k t pop of e = rw (same-place k (cap t) (t .head)) (remove-high k t (e .0) (t .len - 1) (omega passed-tests) ∙ omega arith)
+row-moves ring t popFront of e = remove-low t (e .0) 0 (omega passed-tests)
+row-moves vector t popFront of e = let z : _≡_ {A = ℕ} 0 1 = cc in absurd (omega arith)
+row-moves ring t (insert i x) of e = sym (ap (λ o. o .moves) (done-is ring t (insert i x) (e .0) (e .1))) ∙ insert-moves t (e .0) i x (omega passed-tests) (omega passed-tests)
+row-moves vector t (insert i x) of e = insert-high vector t (e .0) i (omega passed-tests) (omega passed-tests)
+row-moves ring t (remove i) of e = sym (ap (λ o. o .moves) (done-is ring t (remove i) (e .0) (e .1))) ∙ remove-moves t (e .0) i (omega passed-tests)
+row-moves vector t (remove i) of e = remove-high vector t (e .0) i (omega passed-tests)
+row-moves k t (swapRemove i) of e = rw (same-place k (cap t) (t .head)) (swap-moves k t (e .0) i (omega passed-tests))
+row-moves k t (write i x) of e = rw (same-place k (cap t) (t .head)) (moved-replaced _ i (t .len))
+row-moves k t (truncate m) of e = rw (same-place k (cap t) (t .head)) (moved-kept _ m (t .len))
+row-moves k t (resize m x) of e = rw (same-place k (cap t) (t .head)) (moved-kept _ m (t .len))
+row-moves k t clear of e = moved-none _ _ (t .len)
+row-moves k t (extend s) of e = rw (same-place k (cap t) (t .head)) (moved-stay _ (t .len))
+row-moves k t (look q) of e = rw (same-place k (cap t) (t .head)) (moved-stay _ (t .len))
 
 -- A call that its kind has, on any container.
 pub moves-of : (k : Kind) (call : Call) (t : Tray) → has call k ≡ true → does k call t .moves ≡ ifDone (does k call t .number) (movesIn k (t .len) call) 0
@@ -191,7 +198,10 @@ moves-of k call t of =
     either (λ (o : Outcome). o .moves ≡ ifDone (o .number) (movesIn k (t .len) call) 0) (refused t (rowOf k call t .given)) (refusalsOf k call t)
     (done k t (after call (list k t)) (rowOf k call t))
     (λ r. sym (if-refused r (movesIn k (t .len) call) 0))
-    (moves-done k t call of)
+    (row-moves k t call of)
+
+pub moves-done : (k : Kind) (call : Call) (t : Tray) → has call k ≡ true → does k call t .number ≡ 0 → does k call t .moves ≡ movesIn k (t .len) call
+moves-done k call t of e = rw e at (moves-of k call t of)
 
 -- A call on two moves nothing in the first, and a making nothing at all.
 pub moves-of2 : (k k2 : Kind) (call : Call2) (t t2 : Tray) → does2 k k2 call t t2 .moves ≡ 0

@@ -6,11 +6,13 @@ ghost use Rattle.table.specs.Calls.{write, push, pushFront, pop, popFront, inse
 ghost use Rattle.table.specs.Does.{does, made};
 ghost use Rattle.ring.specs.Seen.{tray, seen, refusing, giving};
 
+// The state: the slot of position 0, and how many entries there are.
 pub struct Ring {
     pub head: usize,
     pub len: usize,
 }
 
+// What a call answers, with the state afterwards.
 pub struct Answer {
     pub number: u8,
     pub value: u32,
@@ -62,10 +64,10 @@ impl Ring {
         if table::invalid_ring(cap, head, len) {
             return refused(1, self);
         }
-        if len <= i { // a free slot's number is no entry
+        if len <= i {
             return refused(3, self);
         }
-        let at = slots::slot(cap, head, i);
+        let at = slots::slot(cap, head, i); // i < len: a free slot's number is no entry
         done(slots[at], 0, head, len)
     }
 

@@ -12,6 +12,7 @@ pub mod Cut
 pub mod VectorDone
 pub mod Done2
 pub mod Trays
+pub mod Samples
 pub mod Worked
 pub mod WorkedChanges
 pub mod WorkedTwo

@@ -13,7 +13,8 @@ use Rattle.table.specs.Calls.{push, pushFront, pop, popFront, insert, sw
 use Rattle.table.specs.Does.{gives, Outcome2, refused2, does, does2, made}
 use Rattle.table.specs.World.{Event, make, on, onTwo, AllOurs, run, lines, held, standing, standingAll}
 use Rattle.table.specs.Ledger.{modelled, entered, handed, dropped}
-use Rattle.table.proofs.Trays.{tray, answers, cursor}
+use Rattle.table.proofs.Trays.{tray, answers}
+use Rattle.table.proofs.Samples.{cursor}
 use Rattle.table.proofs.Demand3.{models, demand-3}
 
 -- done on two, with value 0 and moves 0

@@ -7,7 +7,7 @@ use Rattle.slots.specs.Lists.{tabulate}
 use Rattle.slots.specs.Count.{one, tally}
 use Rattle.slots.specs.Layout.{ring, vector, slotOf, posOf, entries, relaid}
 use Rattle.slots.specs.Moves.{moved}
-use Rattle.table.specs.Tray.{Tray, valid, Cursor, nowhere}
+use Rattle.table.specs.Tray.{Tray, valid, nowhere}
 use Rattle.table.specs.Calls.{push, pushFront, pop, popFront, insert, remove, swapRemove, truncate, resize}
 use Rattle.table.specs.Does.{Outcome, gives, refused, does}
 
@@ -18,9 +18,6 @@ tray h n slots = record { head = h; len = n; slots = slots }
 -- a refusal: the number, with value 0, moves 0 and the tray as it was (`gives` has value, moves, head, length and the slots)
 abbrev pub answers : (number : ℕ) → Tray → Outcome
 answers number t = refused t nowhere number
-
-abbrev pub cursor : (front back : ℕ) → Cursor
-cursor front back = record { front = front; back = back }
 
 -- W is c 4, h 2, n 3, slots 11,0,9,10 (list 9,10,11)
 abbrev pub W : Tray

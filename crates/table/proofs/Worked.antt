@@ -11,7 +11,8 @@ use Rattle.table.specs.Tray.{Tray, valid, Cursor, nowhere}
 use Rattle.table.specs.Calls.{look, len, isEmpty, read, reserve, tryReserve, tryReserveExact, range, iter, intoIter, stepFront, stepBack, peekFront, peekBack}
 use Rattle.table.specs.Does.{Outcome, refused, does}
 use Rattle.table.specs.Parts.{Part, lends, lendsAll, inPart}
-use Rattle.table.proofs.Trays.{tray, answers, cursor, W, U}
+use Rattle.table.proofs.Trays.{tray, answers, W, U}
+use Rattle.table.proofs.Samples.{cursor, noSlots, overfull, emptyRing, emptyVector, fullVector}
 
 -- done with this value: the tray as it was, and no cursor
 abbrev tells : (value : ℕ) → Tray → Outcome
@@ -24,24 +25,6 @@ shows value u t = record { number = 0; value = value; moves = 0; tray = t; curso
 -- refused: the tray and the cursor as they were
 abbrev stops : (number : ℕ) → Cursor → Tray → Outcome
 stops number u t = refused t u number
-
--- an empty ring whose head is its last slot, an empty vector, and one that is full
-abbrev pub E : Tray
-E = tray 1 0 (5 ∷ 6 ∷ [])
-
-abbrev pub D : Tray
-D = tray 0 0 (5 ∷ 6 ∷ [])
-
-abbrev pub F : Tray
-F = tray 0 2 (5 ∷ 6 ∷ [])
-
--- on no slots
-abbrev pub Z : Tray
-Z = tray 0 0 []
-
--- invalid: more entries than slots, as a ring and as a vector
-abbrev pub X : Tray
-X = tray 0 3 (5 ∷ 6 ∷ [])
 
 -- When a ring is valid: n ≤ c and h < c, or c = h = 0.
 ring-states : (does ring (look len) (tray 3 4 (1 ∷ 2 ∷ 3 ∷ 4 ∷ [])) ≡ tells 4 (tray 3 4 (1 ∷ 2 ∷ 3 ∷ 4 ∷ [])))
@@ -68,8 +51,8 @@ unfolding does valid entries relaid moved tabulate tally one slotOf posOf
 vector-states = (refl, refl, refl, refl, refl)
 
 -- `is_empty` is 1 or 0; an invalid state answers 1 with value 0.
-empties : (does vector (look isEmpty) D ≡ tells 1 D) × (does vector (look isEmpty) U ≡ tells 0 U) × (does vector (look isEmpty) Z ≡ tells 1 Z)
-    × (does vector (look isEmpty) X ≡ answers 1 X)
+empties : (does vector (look isEmpty) emptyVector ≡ tells 1 emptyVector) × (does vector (look isEmpty) U ≡ tells 0 U) × (does vector (look isEmpty) noSlots ≡ tells 1 noSlots)
+    × (does vector (look isEmpty) overfull ≡ answers 1 overfull)
 unfolding does valid entries relaid moved tabulate tally one slotOf posOf
 empties = (refl, refl, refl, refl)
 
@@ -77,42 +60,42 @@ empties = (refl, refl, refl, refl)
 reads : (does ring (look (read 0)) W ≡ tells 9 W) × (does ring (look (read 1)) W ≡ tells 10 W) × (does ring (look (read 2)) W ≡ tells 11 W)
     × (does ring (look (read 3)) W ≡ answers 3 W)
     × (does ring (look (read 18446744073709551615)) W ≡ answers 3 W)
-    × (does ring (look (read 0)) E ≡ answers 3 E)
-    × (does ring (look (read 0)) Z ≡ answers 3 Z)
-    × (does ring (look (read 3)) X ≡ answers 1 X)
+    × (does ring (look (read 0)) emptyRing ≡ answers 3 emptyRing)
+    × (does ring (look (read 0)) noSlots ≡ answers 3 noSlots)
+    × (does ring (look (read 3)) overfull ≡ answers 1 overfull)
     × (does vector (look (read 0)) U ≡ tells 1 U)
     × (does vector (look (read 2)) U ≡ tells 3 U)
     × (does vector (look (read 3)) U ≡ answers 3 U)
     × (does vector (look (read 18446744073709551615)) U ≡ answers 3 U)
-    × (does vector (look (read 3)) X ≡ answers 1 X)
+    × (does vector (look (read 3)) overfull ≡ answers 1 overfull)
 unfolding does valid entries relaid moved tabulate tally one slotOf posOf
 reads = (refl, refl, refl, refl, refl, refl, refl, refl, refl, refl, refl, refl, refl)
 
 -- `reserve` asks for as many free slots as there are. The last k is one whose sum with n is 2 to the 64th.
 reserves : (does ring (look (reserve 0)) W ≡ tells 0 W) × (does ring (look (reserve 1)) W ≡ tells 0 W) × (does ring (look (reserve 2)) W ≡ answers 6 W)
     × (does ring (look (reserve 18446744073709551613)) W ≡ answers 6 W)
-    × (does ring (look (reserve 0)) Z ≡ tells 0 Z)
-    × (does ring (look (reserve 1)) Z ≡ answers 6 Z)
-    × (does ring (look (reserve 1)) X ≡ answers 1 X)
-    × (does vector (look (reserve 2)) D ≡ tells 0 D)
-    × (does vector (look (reserve 3)) D ≡ answers 6 D)
-    × (does vector (look (reserve 0)) F ≡ tells 0 F)
-    × (does vector (look (reserve 1)) F ≡ answers 6 F)
+    × (does ring (look (reserve 0)) noSlots ≡ tells 0 noSlots)
+    × (does ring (look (reserve 1)) noSlots ≡ answers 6 noSlots)
+    × (does ring (look (reserve 1)) overfull ≡ answers 1 overfull)
+    × (does vector (look (reserve 2)) emptyVector ≡ tells 0 emptyVector)
+    × (does vector (look (reserve 3)) emptyVector ≡ answers 6 emptyVector)
+    × (does vector (look (reserve 0)) fullVector ≡ tells 0 fullVector)
+    × (does vector (look (reserve 1)) fullVector ≡ answers 6 fullVector)
     × (does vector (look (reserve 18446744073709551613)) U ≡ answers 6 U)
-    × (does vector (look (reserve 1)) X ≡ answers 1 X)
+    × (does vector (look (reserve 1)) overfull ≡ answers 1 overfull)
 unfolding does valid entries relaid moved tabulate tally one slotOf posOf
 reserves = (refl, refl, refl, refl, refl, refl, refl, refl, refl, refl, refl, refl, refl)
 
 -- `try_reserve` and `try_reserve_exact` answer as `reserve` does.
 tries : (does vector (look (tryReserve 1)) U ≡ tells 0 U) × (does vector (look (tryReserve 2)) U ≡ answers 6 U)
-    × (does vector (look (tryReserve 0)) F ≡ tells 0 F)
+    × (does vector (look (tryReserve 0)) fullVector ≡ tells 0 fullVector)
     × (does vector (look (tryReserve 18446744073709551613)) U ≡ answers 6 U)
-    × (does vector (look (tryReserve 1)) X ≡ answers 1 X)
+    × (does vector (look (tryReserve 1)) overfull ≡ answers 1 overfull)
     × (does vector (look (tryReserveExact 1)) U ≡ tells 0 U)
     × (does vector (look (tryReserveExact 2)) U ≡ answers 6 U)
-    × (does vector (look (tryReserveExact 0)) F ≡ tells 0 F)
+    × (does vector (look (tryReserveExact 0)) fullVector ≡ tells 0 fullVector)
     × (does vector (look (tryReserveExact 18446744073709551613)) U ≡ answers 6 U)
-    × (does vector (look (tryReserveExact 1)) X ≡ answers 1 X)
+    × (does vector (look (tryReserveExact 1)) overfull ≡ answers 1 overfull)
 unfolding does valid entries relaid moved tabulate tally one slotOf posOf
 tries = (refl, refl, refl, refl, refl, refl, refl, refl, refl, refl)
 
@@ -123,8 +106,8 @@ ranges : (does vector (look (range 0 3)) U ≡ tells 0 U) × (does vector (look 
     × (does vector (look (range 4 4)) U ≡ answers 3 U)
     × (does vector (look (range 18446744073709551615 0)) U ≡ answers 3 U)
     × (does vector (look (range 0 18446744073709551615)) U ≡ answers 3 U)
-    × (does vector (look (range 0 0)) Z ≡ tells 0 Z)
-    × (does vector (look (range 2 1)) X ≡ answers 1 X)
+    × (does vector (look (range 0 0)) noSlots ≡ tells 0 noSlots)
+    × (does vector (look (range 2 1)) overfull ≡ answers 1 overfull)
 unfolding does valid entries relaid moved tabulate tally one slotOf posOf
 ranges = (refl, refl, refl, refl, refl, refl, refl, refl, refl, refl)
 
@@ -137,10 +120,10 @@ parts : (lends 0 3 U ≡ part 0 3) × (lends 1 3 U ≡ part 1 2) × (lends 1 1 U
     × (lends 1 4 U ≡ part 0 0)
     × (lends 4 4 U ≡ part 0 0)
     × (lends 0 18446744073709551615 U ≡ part 0 0)
-    × (lends 1 2 X ≡ part 0 0)
+    × (lends 1 2 overfull ≡ part 0 0)
     × (lendsAll U ≡ part 0 3)
     × (lendsAll (tray 0 0 (5 ∷ [])) ≡ part 0 0)
-    × (lendsAll X ≡ part 0 0)
+    × (lendsAll overfull ≡ part 0 0)
     × (inPart (part 1 2) (1 ∷ 2 ∷ 3 ∷ 9 ∷ []) ≡ 2 ∷ 3 ∷ [])
     × (inPart (part 0 0) (1 ∷ 2 ∷ 3 ∷ 9 ∷ []) ≡ [])
 unfolding valid
@@ -148,14 +131,14 @@ parts = (refl, refl, refl, refl, refl, refl, refl, refl, refl, refl, refl, refl,
 
 -- `iter` and `into_iter` begin at 0 and n; refused, they give cursor 0, 0.
 iters : (does ring (look iter) W ≡ shows 0 (cursor 0 3) W) × (does ring (look intoIter) W ≡ shows 0 (cursor 0 3) W)
-    × (does ring (look iter) E ≡ shows 0 (cursor 0 0) E)
-    × (does ring (look iter) X ≡ stops 1 (cursor 0 0) X)
-    × (does ring (look intoIter) X ≡ stops 1 (cursor 0 0) X)
+    × (does ring (look iter) emptyRing ≡ shows 0 (cursor 0 0) emptyRing)
+    × (does ring (look iter) overfull ≡ stops 1 (cursor 0 0) overfull)
+    × (does ring (look intoIter) overfull ≡ stops 1 (cursor 0 0) overfull)
     × (does vector (look iter) U ≡ shows 0 (cursor 0 3) U)
     × (does vector (look intoIter) U ≡ shows 0 (cursor 0 3) U)
-    × (does vector (look intoIter) D ≡ shows 0 (cursor 0 0) D)
-    × (does vector (look iter) X ≡ stops 1 (cursor 0 0) X)
-    × (does vector (look intoIter) X ≡ stops 1 (cursor 0 0) X)
+    × (does vector (look intoIter) emptyVector ≡ shows 0 (cursor 0 0) emptyVector)
+    × (does vector (look iter) overfull ≡ stops 1 (cursor 0 0) overfull)
+    × (does vector (look intoIter) overfull ≡ stops 1 (cursor 0 0) overfull)
 unfolding does valid entries relaid moved tabulate tally one slotOf posOf
 iters = (refl, refl, refl, refl, refl, refl, refl, refl, refl, refl)
 
@@ -167,7 +150,7 @@ front-steps : (does ring (look (stepFront (cursor 0 3))) W ≡ shows 9 (cursor 1
     × (does ring (look (stepFront (cursor 1 1))) W ≡ stops 4 (cursor 1 1) W)
     × (does vector (look (stepFront (cursor 1 2))) U ≡ shows 2 (cursor 2 2) U)
     × (does vector (look (stepFront (cursor 2 2))) U ≡ stops 4 (cursor 2 2) U)
-    × (does ring (look (stepFront (cursor 0 0))) Z ≡ stops 4 (cursor 0 0) Z)
+    × (does ring (look (stepFront (cursor 0 0))) noSlots ≡ stops 4 (cursor 0 0) noSlots)
 unfolding does valid entries relaid moved tabulate tally one slotOf posOf
 front-steps = (refl, refl, refl, refl, refl, refl, refl, refl)
 
@@ -179,7 +162,7 @@ back-steps : (does ring (look (stepBack (cursor 0 3))) W ≡ shows 11 (cursor 0 
     × (does ring (look (stepBack (cursor 3 3))) W ≡ stops 4 (cursor 3 3) W)
     × (does vector (look (stepBack (cursor 1 3))) U ≡ shows 3 (cursor 1 2) U)
     × (does vector (look (stepBack (cursor 2 2))) U ≡ stops 4 (cursor 2 2) U)
-    × (does vector (look (stepBack (cursor 0 0))) Z ≡ stops 4 (cursor 0 0) Z)
+    × (does vector (look (stepBack (cursor 0 0))) noSlots ≡ stops 4 (cursor 0 0) noSlots)
 unfolding does valid entries relaid moved tabulate tally one slotOf posOf
 back-steps = (refl, refl, refl, refl, refl, refl, refl, refl)
 
@@ -188,15 +171,15 @@ damaged-steps : (does ring (look (stepFront (cursor 2 1))) W ≡ stops 3 (cursor
     × (does ring (look (stepFront (cursor 0 4))) W ≡ stops 3 (cursor 0 4) W)
     × (does ring (look (stepFront (cursor 4 4))) W ≡ stops 3 (cursor 4 4) W)
     × (does ring (look (stepFront (cursor 18446744073709551615 0))) W ≡ stops 3 (cursor 18446744073709551615 0) W)
-    × (does ring (look (stepFront (cursor 4 4))) X ≡ stops 1 (cursor 4 4) X)
+    × (does ring (look (stepFront (cursor 4 4))) overfull ≡ stops 1 (cursor 4 4) overfull)
     × (does ring (look (stepBack (cursor 2 1))) W ≡ stops 3 (cursor 2 1) W)
     × (does ring (look (stepBack (cursor 0 4))) W ≡ stops 3 (cursor 0 4) W)
     × (does ring (look (stepBack (cursor 4 4))) W ≡ stops 3 (cursor 4 4) W)
     × (does ring (look (stepBack (cursor 0 18446744073709551615))) W ≡ stops 3 (cursor 0 18446744073709551615) W)
-    × (does ring (look (stepBack (cursor 4 4))) X ≡ stops 1 (cursor 4 4) X)
+    × (does ring (look (stepBack (cursor 4 4))) overfull ≡ stops 1 (cursor 4 4) overfull)
     × (does vector (look (stepFront (cursor 0 4))) U ≡ stops 3 (cursor 0 4) U)
     × (does vector (look (stepBack (cursor 3 2))) U ≡ stops 3 (cursor 3 2) U)
-    × (does vector (look (stepFront (cursor 2 1))) X ≡ stops 1 (cursor 2 1) X)
+    × (does vector (look (stepFront (cursor 2 1))) overfull ≡ stops 1 (cursor 2 1) overfull)
 unfolding does valid entries relaid moved tabulate tally one slotOf posOf
 damaged-steps = (refl, refl, refl, refl, refl, refl, refl, refl, refl, refl, refl, refl, refl)
 
@@ -209,7 +192,7 @@ front-peeks : (does ring (look (peekFront (cursor 0 3) 0)) W ≡ shows 9 (cursor
     × (does ring (look (peekFront (cursor 2 1) 0)) W ≡ stops 3 (cursor 2 1) W)
     × (does ring (look (peekFront (cursor 0 4) 0)) W ≡ stops 3 (cursor 0 4) W)
     × (does ring (look (peekFront (cursor 1 3) 18446744073709551615)) W ≡ stops 3 (cursor 1 3) W)
-    × (does ring (look (peekFront (cursor 2 1) 5)) X ≡ stops 1 (cursor 2 1) X)
+    × (does ring (look (peekFront (cursor 2 1) 5)) overfull ≡ stops 1 (cursor 2 1) overfull)
     × (does vector (look (peekFront (cursor 1 3) 0)) U ≡ shows 2 (cursor 1 3) U)
     × (does vector (look (peekFront (cursor 1 3) 2)) U ≡ stops 3 (cursor 1 3) U)
 unfolding does valid entries relaid moved tabulate tally one slotOf posOf
@@ -224,7 +207,7 @@ back-peeks : (does ring (look (peekBack (cursor 0 3) 0)) W ≡ shows 11 (cursor 
     × (does ring (look (peekBack (cursor 2 1) 0)) W ≡ stops 3 (cursor 2 1) W)
     × (does ring (look (peekBack (cursor 0 4) 0)) W ≡ stops 3 (cursor 0 4) W)
     × (does ring (look (peekBack (cursor 1 3) 18446744073709551615)) W ≡ stops 3 (cursor 1 3) W)
-    × (does ring (look (peekBack (cursor 2 1) 5)) X ≡ stops 1 (cursor 2 1) X)
+    × (does ring (look (peekBack (cursor 2 1) 5)) overfull ≡ stops 1 (cursor 2 1) overfull)
     × (does vector (look (peekBack (cursor 1 3) 1)) U ≡ shows 2 (cursor 1 3) U)
     × (does vector (look (peekBack (cursor 1 3) 2)) U ≡ stops 3 (cursor 1 3) U)
 unfolding does valid entries relaid moved tabulate tally one slotOf posOf

@@ -15,7 +15,7 @@ use Rattle.table.specs.Does.{gives, refused2, does, does2, made}
 use Rattle.table.proofs.Made.{new-done, with-capacity-done}
 use Rattle.table.proofs.Looks.{len-done}
 use Rattle.table.proofs.Trays.{tray, answers, W}
-use Rattle.table.proofs.Worked.{X}
+use Rattle.table.proofs.Samples.{overfull}
 
 -- `new` and `with_capacity` touch no slot; `with_capacity` is done up to the capacity. A refused making gives state 0, 0.
 makings : (made ring new (7 ∷ 8 ∷ []) ≡ gives 0 0 0 0 (7 ∷ 8 ∷ [])) × (made vector new (7 ∷ 8 ∷ []) ≡ gives 0 0 0 0 (7 ∷ 8 ∷ []))
@@ -70,7 +70,7 @@ overs : (made ring new over ≡ answers 1 (tray 0 0 over)) × (made vector new o
     × (does vector (look len) (tray 0 0 over) ≡ answers 1 (tray 0 0 over))
     × (does ring pop (tray 0 0 over) ≡ answers 1 (tray 0 0 over))
     × (does vector pop (tray 0 0 over) ≡ answers 1 (tray 0 0 over))
-    × (does2 ring ring append (tray 0 0 over) X ≡ refused2 (tray 0 0 over) X nowhere 1)
+    × (does2 ring ring append (tray 0 0 over) overfull ≡ refused2 (tray 0 0 over) overfull nowhere 1)
     × (does2 ring ring append W (tray 0 0 over) ≡ refused2 W (tray 0 0 over) nowhere 2)
 unfolding does does2 made valid entries relaid moved tabulate tally one slotOf posOf
 overs = (refl, refl, refl, refl, refl, refl, refl, refl, refl, refl, refl)

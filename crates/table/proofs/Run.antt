@@ -1,7 +1,8 @@
 -- A run of calls on two rings and two vectors, refused ones among them, played by the table: demand 3 is about something. Each outcome, the
 -- lists at the end and the counts are written out. Assumes nothing.
 use Prim.Native.Nat.{ℕ, _+_}
-use mathlib.Core.Path.{_≡_, refl}
+use mathlib.Core.Path.{_≡_, refl, sym, ap}
+use mathlib.Core.Bool.{true≢false}
 use mathlib.Core.List.{List, [], _∷_}
 use native.Mathlib.Omega.{arith}
 use Rattle.slots.specs.Lists.{tabulate}
@@ -10,8 +11,8 @@ use Rattle.slots.specs.Layout.{ring, vector, slotOf, posOf, entries, relaid}
 use Rattle.slots.specs.Moves.{moved}
 use Rattle.table.specs.Tray.{Tray, valid, Cursor, nowhere}
 use Rattle.table.specs.Calls.{push, pushFront, pop, popFront, insert, swapRemove, write, truncate, resize, look, read, append, splitOff, clone, fromIter, new, withCapacity, fromElem}
-use Rattle.table.specs.Does.{gives, Outcome2, refused2, does, does2, made}
-use Rattle.table.specs.World.{Event, make, on, onTwo, AllOurs, run, lines, held, standing, standingAll}
+use Rattle.table.specs.Does.{Outcome, gives, Outcome2, refused2, does, does2, made}
+use Rattle.table.specs.World.{Event, make, on, onTwo, Ours, AllOurs, run, lines, held, standing, standingAll}
 use Rattle.table.specs.Ledger.{modelled, entered, handed, dropped}
 use Rattle.table.proofs.Trays.{tray, answers}
 use Rattle.table.proofs.Samples.{cursor}
@@ -88,15 +89,51 @@ slots-hold = models events ours
 
 -- 8 entered six times (two by from_elem, one by insert, two by the growing resize, one copied by from_iter), was refused twice, was handed out
 -- twice, was dropped once and stands three times.
-eights : (entered 8 [] (lines events) ≡ 6) × (handed 8 [] (lines events) ≡ 2) × (dropped 8 [] (lines events) ≡ 1) × (standingAll 8 (run [] events) ≡ 3)
+eights :
+    (entered 8 [] (lines events) ≡ 6)
+    × (handed 8 [] (lines events) ≡ 2)
+    × (dropped 8 [] (lines events) ≡ 1)
+    × (standingAll 8 (run [] events) ≡ 3)
 unfolding standing entries tabulate tally one slotOf posOf
 eights = (refl, refl, refl, refl)
 
+-- 11 entered by a push and again as a copy, and stands in a ring and in a vector
+elevens :
+    (entered 11 [] (lines events) ≡ 2)
+    × (handed 11 [] (lines events) ≡ 0)
+    × (dropped 11 [] (lines events) ≡ 0)
+    × (standingAll 11 (run [] events) ≡ 2)
+unfolding standing entries tabulate tally one slotOf posOf
+elevens = (refl, refl, refl, refl)
+
 -- 1 stands in a slot that was lent and never occupied, which counts for nothing
-free-slots : (entered 1 [] (lines events) ≡ 0) × (handed 1 [] (lines events) ≡ 0) × (dropped 1 [] (lines events) ≡ 0) × (standingAll 1 (run [] events) ≡ 0)
+free-slots :
+    (entered 1 [] (lines events) ≡ 0)
+    × (handed 1 [] (lines events) ≡ 0)
+    × (dropped 1 [] (lines events) ≡ 0)
+    × (standingAll 1 (run [] events) ≡ 0)
 unfolding standing entries tabulate tally one slotOf posOf
 free-slots = (refl, refl, refl, refl)
 
 -- demand 3 of this run
 and-so : (x : ℕ) → entered x [] (lines events) ≡ handed x [] (lines events) + dropped x [] (lines events) + standingAll x (run [] events)
 and-so x = demand-3 events ours x
+
+-- What is not ours: from_elem of a ring, a call on a container that is not there, push_front of a vector, one container named twice, append of
+-- a vector to a ring, and a pop whose outcome is that of a refusal.
+not-ours :
+    ((o : Outcome) → Ours [] (make ring (fromElem 1 8) (5 ∷ []) o) → ⊥)
+    × ((o : Outcome) → Ours (run [] events) (on 4 pop o) → ⊥)
+    × ((o : Outcome) → Ours (run [] events) (on 2 (pushFront 1) o) → ⊥)
+    × ((o : Outcome2) → Ours (run [] events) (onTwo 0 0 append o) → ⊥)
+    × ((o : Outcome2) → Ours (run [] events) (onTwo 0 2 append o) → ⊥)
+    × (Ours (run [] events) (on 2 pop (answers 4 (tray 0 1 (8 ∷ 0 ∷ 1 ∷ [])))) → ⊥)
+unfolding does valid entries tabulate
+not-ours = (
+  λ o our. true≢false (sym (our .0)),
+  λ o our. omega (arith, our .0),
+  λ o our. true≢false (sym (our .1)),
+  λ o our. our .2 refl,
+  λ o our. true≢false (sym (our .3)),
+  λ our. let zero-four : _≡_ {A = ℕ} 4 0 = ap (λ (o : Outcome). o .number) (our .2) in omega arith,
+)

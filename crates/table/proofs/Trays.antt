@@ -27,7 +27,7 @@ W = tray 2 3 (11 ∷ 0 ∷ 9 ∷ 10 ∷ [])
 abbrev pub U : Tray
 U = tray 0 3 (1 ∷ 2 ∷ 3 ∷ 9 ∷ [])
 
--- Where the paper leaves an entry or a slot open, it is any; a push or pop that it does not say the kind of is of both.
+-- Where the paper leaves an entry or a slot open it is any, and case g is of both kinds.
 pub record Cases : Type 0 where
   pub a : does ring (insert 1 8) W ≡ gives 0 1 1 4 (11 ∷ 9 ∷ 8 ∷ 10 ∷ [])
   pub b : does ring (insert 2 8) W ≡ gives 0 1 2 4 (8 ∷ 11 ∷ 9 ∷ 10 ∷ [])

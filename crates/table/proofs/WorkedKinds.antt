@@ -22,7 +22,10 @@ abbrev vectorOnly : List Bool
 vectorOnly = false ∷ true ∷ []
 
 -- The calls and the making that are of one kind only.
-one-kind : (kinds (has (pushFront 1)) ≡ ringOnly) × (kinds (has popFront) ≡ ringOnly) × (kinds (has (swapRemove 1)) ≡ vectorOnly)
+one-kind :
+    (kinds (has (pushFront 1)) ≡ ringOnly)
+    × (kinds (has popFront) ≡ ringOnly)
+    × (kinds (has (swapRemove 1)) ≡ vectorOnly)
     × (kinds (has (extend (1 ∷ []))) ≡ vectorOnly)
     × (kinds (has (look isEmpty)) ≡ vectorOnly)
     × (kinds (has (look (tryReserve 1))) ≡ vectorOnly)
@@ -32,7 +35,11 @@ one-kind : (kinds (has (pushFront 1)) ≡ ringOnly) × (kinds (has popFront) ≡
 one-kind = (refl, refl, refl, refl, refl, refl, refl, refl, refl)
 
 -- Those of both kinds.
-both-kinds : (kinds (has (push 1)) ≡ both) × (kinds (has pop) ≡ both) × (kinds (has (insert 0 1)) ≡ both) × (kinds (has (remove 0)) ≡ both)
+both-kinds :
+    (kinds (has (push 1)) ≡ both)
+    × (kinds (has pop) ≡ both)
+    × (kinds (has (insert 0 1)) ≡ both)
+    × (kinds (has (remove 0)) ≡ both)
     × (kinds (has (write 0 1)) ≡ both)
     × (kinds (has (truncate 1)) ≡ both)
     × (kinds (has (resize 1 1)) ≡ both)
@@ -51,7 +58,9 @@ both-kinds : (kinds (has (push 1)) ≡ both) × (kinds (has pop) ≡ both) × (k
 both-kinds = (refl, refl, refl, refl, refl, refl, refl, refl, refl, refl, refl, refl, refl, refl, refl, refl, refl, refl, refl)
 
 -- T is of the same kind, in from_iter a vector; sameness is of rings, equality of vectors. Named first is a ring, then a vector.
-two-kinds : (kinds (has2 append ring) ≡ ringOnly) × (kinds (has2 append vector) ≡ vectorOnly)
+two-kinds :
+    (kinds (has2 append ring) ≡ ringOnly)
+    × (kinds (has2 append vector) ≡ vectorOnly)
     × (kinds (has2 (splitOff 1) ring) ≡ ringOnly)
     × (kinds (has2 (splitOff 1) vector) ≡ vectorOnly)
     × (kinds (has2 clone ring) ≡ ringOnly)

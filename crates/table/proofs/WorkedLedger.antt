@@ -20,7 +20,9 @@ abbrev l : List ℕ
 l = 1 ∷ 2 ∷ 3 ∷ []
 
 -- Entered: pushed, inserted, written, extended, filled. Handed out: returned by pops, removals and write.
-entries-in-and-out : (flow (push 8) 0 l ≡ moves (8 ∷ []) [] []) × (flow (pushFront 8) 0 l ≡ moves (8 ∷ []) [] [])
+entries-in-and-out :
+    (flow (push 8) 0 l ≡ moves (8 ∷ []) [] [])
+    × (flow (pushFront 8) 0 l ≡ moves (8 ∷ []) [] [])
     × (flow (insert 1 8) 0 l ≡ moves (8 ∷ []) [] [])
     × (flow (extend (8 ∷ 9 ∷ [])) 0 l ≡ moves (8 ∷ 9 ∷ []) [] [])
     × (flow pop 3 l ≡ moves [] (3 ∷ []) [])
@@ -31,7 +33,10 @@ entries-in-and-out : (flow (push 8) 0 l ≡ moves (8 ∷ []) [] []) × (flow (pu
 entries-in-and-out = (refl, refl, refl, refl, refl, refl, refl, refl, refl)
 
 -- Dropped: what truncate, a shrinking resize and clear leave out of the list; a growing resize makes copies, which enter.
-drops : (flow (truncate 1) 0 l ≡ moves [] [] (2 ∷ 3 ∷ [])) × (flow (truncate 3) 0 l ≡ nothing) × (flow (truncate 5) 0 l ≡ nothing)
+drops :
+    (flow (truncate 1) 0 l ≡ moves [] [] (2 ∷ 3 ∷ []))
+    × (flow (truncate 3) 0 l ≡ nothing)
+    × (flow (truncate 5) 0 l ≡ nothing)
     × (flow (resize 1 8) 0 l ≡ moves [] [] (2 ∷ 3 ∷ []))
     × (flow (resize 3 8) 0 l ≡ nothing)
     × (flow (resize 5 8) 0 l ≡ moves (8 ∷ 8 ∷ []) [] [])
@@ -39,7 +44,9 @@ drops : (flow (truncate 1) 0 l ≡ moves [] [] (2 ∷ 3 ∷ [])) × (flow (trunc
 drops = (refl, refl, refl, refl, refl, refl, refl)
 
 -- The copies that clone, from_elem and from_iter make enter. Append, split_off, a question, read, peek and a step do none of these.
-copies : (flow2 clone l ≡ moves (1 ∷ 2 ∷ 3 ∷ []) [] []) × (flow2 (fromIter (cursor 1 3)) l ≡ moves (2 ∷ 3 ∷ []) [] [])
+copies :
+    (flow2 clone l ≡ moves (1 ∷ 2 ∷ 3 ∷ []) [] [])
+    × (flow2 (fromIter (cursor 1 3)) l ≡ moves (2 ∷ 3 ∷ []) [] [])
     × (flow2 (fromIter (cursor 0 2)) l ≡ moves (1 ∷ 2 ∷ []) [] [])
     × (flowMade (fromElem 2 8) ≡ moves (8 ∷ 8 ∷ []) [] [])
     × (flowMade new ≡ nothing)
@@ -59,7 +66,9 @@ abbrev ls : Lists
 ls = (1 ∷ 2 ∷ []) ∷ (3 ∷ []) ∷ [] ∷ []
 
 -- A line of the ledger: the call is on the container named, over that one's list, and a refused one does nothing.
-flowing : (flows ls (call 0 clear 0 0) ≡ moves [] [] (1 ∷ 2 ∷ [])) × (flows ls (call 1 clear 0 0) ≡ moves [] [] (3 ∷ []))
+flowing :
+    (flows ls (call 0 clear 0 0) ≡ moves [] [] (1 ∷ 2 ∷ []))
+    × (flows ls (call 1 clear 0 0) ≡ moves [] [] (3 ∷ []))
     × (flows ls (call 0 pop 0 2) ≡ moves [] (2 ∷ []) [])
     × (flows ls (call 0 (push 8) 6 0) ≡ nothing)
     × (flows ls (call 0 clear 1 0) ≡ nothing)
@@ -71,7 +80,8 @@ flowing : (flows ls (call 0 clear 0 0) ≡ moves [] [] (1 ∷ 2 ∷ [])) × (flo
 flowing = (refl, refl, refl, refl, refl, refl, refl, refl, refl, refl)
 
 -- The model lists after a line. A refused making adds a container too, with nothing in it.
-modelling : (listsAfter ls (call 1 (push 8) 0 0) ≡ (1 ∷ 2 ∷ []) ∷ (3 ∷ 8 ∷ []) ∷ [] ∷ [])
+modelling :
+    (listsAfter ls (call 1 (push 8) 0 0) ≡ (1 ∷ 2 ∷ []) ∷ (3 ∷ 8 ∷ []) ∷ [] ∷ [])
     × (listsAfter ls (call 1 (push 8) 6 0) ≡ ls)
     × (listsAfter ls (callTwo 0 1 append 0) ≡ (1 ∷ 2 ∷ 3 ∷ []) ∷ [] ∷ [] ∷ [])
     × (listsAfter ls (callTwo 1 0 append 0) ≡ [] ∷ (3 ∷ 1 ∷ 2 ∷ []) ∷ [] ∷ [])

@@ -18,7 +18,9 @@ use Rattle.table.proofs.Trays.{tray, answers, W}
 use Rattle.table.proofs.Samples.{overfull}
 
 -- `new` and `with_capacity` touch no slot; `with_capacity` is done up to the capacity. A refused making gives state 0, 0.
-makings : (made ring new (7 ∷ 8 ∷ []) ≡ gives 0 0 0 0 (7 ∷ 8 ∷ [])) × (made vector new (7 ∷ 8 ∷ []) ≡ gives 0 0 0 0 (7 ∷ 8 ∷ []))
+makings :
+    (made ring new (7 ∷ 8 ∷ []) ≡ gives 0 0 0 0 (7 ∷ 8 ∷ []))
+    × (made vector new (7 ∷ 8 ∷ []) ≡ gives 0 0 0 0 (7 ∷ 8 ∷ []))
     × (made ring new [] ≡ gives 0 0 0 0 [])
     × (made vector new [] ≡ gives 0 0 0 0 [])
     × (made ring (withCapacity 2) (7 ∷ 8 ∷ []) ≡ gives 0 0 0 0 (7 ∷ 8 ∷ []))
@@ -32,7 +34,9 @@ unfolding made valid entries relaid moved tabulate tally one slotOf posOf
 makings = (refl, refl, refl, refl, refl, refl, refl, refl, refl, refl, refl)
 
 -- from_elem fills k slots and keeps the others.
-elems : (made vector (fromElem 0 5) (7 ∷ 8 ∷ []) ≡ gives 0 0 0 0 (7 ∷ 8 ∷ [])) × (made vector (fromElem 1 5) (7 ∷ 8 ∷ []) ≡ gives 0 0 0 1 (5 ∷ 8 ∷ []))
+elems :
+    (made vector (fromElem 0 5) (7 ∷ 8 ∷ []) ≡ gives 0 0 0 0 (7 ∷ 8 ∷ []))
+    × (made vector (fromElem 1 5) (7 ∷ 8 ∷ []) ≡ gives 0 0 0 1 (5 ∷ 8 ∷ []))
     × (made vector (fromElem 2 4294967295) (7 ∷ 8 ∷ []) ≡ gives 0 0 0 2 (4294967295 ∷ 4294967295 ∷ []))
     × (made vector (fromElem 3 5) (7 ∷ 8 ∷ []) ≡ answers 6 (tray 0 0 (7 ∷ 8 ∷ [])))
     × (made vector (fromElem 18446744073709551615 5) (7 ∷ 8 ∷ []) ≡ answers 6 (tray 0 0 (7 ∷ 8 ∷ [])))
@@ -42,7 +46,9 @@ unfolding made valid entries relaid moved tabulate tally one slotOf posOf
 elems = (refl, refl, refl, refl, refl, refl, refl)
 
 -- Capacity 1: the one slot is the one before and the one after itself.
-ones : (does ring (push 4) (tray 0 0 (3 ∷ [])) ≡ gives 0 0 0 1 (4 ∷ [])) × (does ring (insert 0 4) (tray 0 0 (3 ∷ [])) ≡ gives 0 0 0 1 (4 ∷ []))
+ones :
+    (does ring (push 4) (tray 0 0 (3 ∷ [])) ≡ gives 0 0 0 1 (4 ∷ []))
+    × (does ring (insert 0 4) (tray 0 0 (3 ∷ [])) ≡ gives 0 0 0 1 (4 ∷ []))
     × (does ring (insert 1 4) (tray 0 1 (3 ∷ [])) ≡ answers 6 (tray 0 1 (3 ∷ [])))
     × (does ring pop (tray 0 1 (3 ∷ [])) ≡ gives 3 0 0 0 (0 ∷ []))
     × (does ring popFront (tray 0 1 (3 ∷ [])) ≡ gives 3 0 0 0 (0 ∷ []))
@@ -62,7 +68,9 @@ abbrev over : List ℕ
 over = replicate 4097 7
 
 -- More than 4,096 slots: 1 before all others, of a making, a call, and on two as the first; of T it is 2.
-overs : (made ring new over ≡ answers 1 (tray 0 0 over)) × (made vector new over ≡ answers 1 (tray 0 0 over))
+overs :
+    (made ring new over ≡ answers 1 (tray 0 0 over))
+    × (made vector new over ≡ answers 1 (tray 0 0 over))
     × (made ring (withCapacity 0) over ≡ answers 1 (tray 0 0 over))
     × (made vector (withCapacity 4098) over ≡ answers 1 (tray 0 0 over))
     × (made vector (fromElem 4098 5) over ≡ answers 1 (tray 0 0 over))
@@ -76,7 +84,9 @@ unfolding does does2 made valid entries relaid moved tabulate tally one slotOf p
 overs = (refl, refl, refl, refl, refl, refl, refl, refl, refl, refl, refl)
 
 -- 4,096 slots are not too many: a full ring whose head is the last of them, a vector, and what they refuse.
-mosts : (does ring (push 1) (tray 4095 4096 most) ≡ answers 6 (tray 4095 4096 most)) × (does ring (push 1) (tray 4096 4096 most) ≡ answers 1 (tray 4096 4096 most))
+mosts :
+    (does ring (push 1) (tray 4095 4096 most) ≡ answers 6 (tray 4095 4096 most))
+    × (does ring (push 1) (tray 4096 4096 most) ≡ answers 1 (tray 4096 4096 most))
     × (does vector (push 1) (tray 0 4096 most) ≡ answers 6 (tray 0 4096 most))
     × (does vector (push 1) (tray 0 4097 most) ≡ answers 1 (tray 0 4097 most))
     × (does vector pop (tray 0 0 most) ≡ answers 4 (tray 0 0 most))
@@ -89,7 +99,9 @@ few : length most ≤ 4096
 few = rw (length-replicate {A = ℕ} 4096 7) (omega arith)
 
 -- and what they do
-mosts-done : (made ring new most ≡ gives 0 0 0 0 most) × (made vector (withCapacity 4096) most ≡ gives 0 0 0 0 most)
+mosts-done :
+    (made ring new most ≡ gives 0 0 0 0 most)
+    × (made vector (withCapacity 4096) most ≡ gives 0 0 0 0 most)
     × (does ring (look len) (tray 4095 4096 most) ≡ gives 4096 0 4095 4096 most)
     × (does vector (look len) (tray 0 4096 most) ≡ gives 4096 0 0 4096 most)
 unfolding valid

@@ -33,7 +33,8 @@ abbrev halts : (number : ℕ) → (t t2 : Tray) → Cursor → Outcome2
 halts number t t2 u = refused2 t t2 u number
 
 -- append of rings: as many as there are free slots, or none of them; T is emptied whole or not at all.
-ring-appends : (does2 ring ring append W oneEntry ≡ leaves (tray 2 4 (11 ∷ 6 ∷ 9 ∷ 10 ∷ [])) (tray 0 0 (3 ∷ 0 ∷ [])))
+ring-appends :
+    (does2 ring ring append W oneEntry ≡ leaves (tray 2 4 (11 ∷ 6 ∷ 9 ∷ 10 ∷ [])) (tray 0 0 (3 ∷ 0 ∷ [])))
     × (does2 ring ring append W twoEntries ≡ stops 6 W twoEntries)
     × (does2 ring ring append toLast twoEntries ≡ leaves (tray 2 6 (3 ∷ 4 ∷ 20 ∷ 21 ∷ 22 ∷ 23 ∷ [])) (tray 0 0 (0 ∷ 0 ∷ [])))
     × (does2 ring ring append wrapping oneEntry ≡ leaves (tray 4 5 (22 ∷ 23 ∷ 6 ∷ 8 ∷ 20 ∷ 21 ∷ [])) (tray 0 0 (3 ∷ 0 ∷ [])))
@@ -50,7 +51,8 @@ unfolding does2 valid entries relaid moved tabulate tally one slotOf posOf
 ring-appends = (refl, refl, refl, refl, refl, refl, refl, refl, refl, refl, refl, refl, refl)
 
 -- append of vectors.
-vector-appends : (does2 vector vector append U (tray 0 1 (5 ∷ 6 ∷ [])) ≡ leaves (tray 0 4 (1 ∷ 2 ∷ 3 ∷ 5 ∷ [])) (tray 0 0 (0 ∷ 6 ∷ [])))
+vector-appends :
+    (does2 vector vector append U (tray 0 1 (5 ∷ 6 ∷ [])) ≡ leaves (tray 0 4 (1 ∷ 2 ∷ 3 ∷ 5 ∷ [])) (tray 0 0 (0 ∷ 6 ∷ [])))
     × (does2 vector vector append U fullVector ≡ stops 6 U fullVector)
     × (does2 vector vector append fullVector emptyVector ≡ leaves fullVector emptyVector)
     × (does2 vector vector append emptyVector fullVector ≡ leaves (tray 0 2 (5 ∷ 6 ∷ [])) (tray 0 0 (0 ∷ 0 ∷ [])))
@@ -60,7 +62,8 @@ unfolding does2 valid entries relaid moved tabulate tally one slotOf posOf
 vector-appends = (refl, refl, refl, refl, refl, refl)
 
 -- split_off of rings: at n is done and at n + 1 refused; T takes exactly as many as it has slots.
-ring-splits : (does2 ring ring (splitOff 1) W emptyRing ≡ leaves (tray 2 1 (0 ∷ 0 ∷ 9 ∷ 0 ∷ [])) (tray 0 2 (10 ∷ 11 ∷ [])))
+ring-splits :
+    (does2 ring ring (splitOff 1) W emptyRing ≡ leaves (tray 2 1 (0 ∷ 0 ∷ 9 ∷ 0 ∷ [])) (tray 0 2 (10 ∷ 11 ∷ [])))
     × (does2 ring ring (splitOff 0) W emptyRing ≡ stops 6 W emptyRing)
     × (does2 ring ring (splitOff 0) W (tray 1 0 (5 ∷ 6 ∷ 7 ∷ [])) ≡ leaves (tray 2 0 (0 ∷ 0 ∷ 0 ∷ 0 ∷ [])) (tray 0 3 (9 ∷ 10 ∷ 11 ∷ [])))
     × (does2 ring ring (splitOff 1) wrapping (tray 2 0 (1 ∷ 2 ∷ 3 ∷ 4 ∷ [])) ≡ leaves (tray 4 1 (0 ∷ 0 ∷ 7 ∷ 8 ∷ 20 ∷ 0 ∷ [])) (tray 0 3 (21 ∷ 22 ∷ 23 ∷ 4 ∷ [])))
@@ -73,7 +76,9 @@ unfolding does2 valid entries relaid moved tabulate tally one slotOf posOf
 ring-splits = (refl, refl, refl, refl, refl, refl, refl, refl, refl)
 
 -- split_off, where two refusals apply: 1 before 2, 2 before 3, 3 before 5, 5 before 6.
-split-order : (does2 ring ring (splitOff 1) overfull overfull ≡ stops 1 overfull overfull) × (does2 ring ring (splitOff 4) W overfull ≡ stops 2 W overfull)
+split-order :
+    (does2 ring ring (splitOff 1) overfull overfull ≡ stops 1 overfull overfull)
+    × (does2 ring ring (splitOff 4) W overfull ≡ stops 2 W overfull)
     × (does2 ring ring (splitOff 4) W oneEntry ≡ stops 3 W oneEntry)
     × (does2 ring ring (splitOff 1) W oneEntry ≡ stops 5 W oneEntry)
     × (does2 ring ring (splitOff 0) W oneEntry ≡ stops 5 W oneEntry)
@@ -81,7 +86,8 @@ unfolding does2 valid entries relaid moved tabulate tally one slotOf posOf
 split-order = (refl, refl, refl, refl, refl)
 
 -- split_off of vectors.
-vector-splits : (does2 vector vector (splitOff 1) U emptyVector ≡ leaves (tray 0 1 (1 ∷ 0 ∷ 0 ∷ 9 ∷ [])) (tray 0 2 (2 ∷ 3 ∷ [])))
+vector-splits :
+    (does2 vector vector (splitOff 1) U emptyVector ≡ leaves (tray 0 1 (1 ∷ 0 ∷ 0 ∷ 9 ∷ [])) (tray 0 2 (2 ∷ 3 ∷ [])))
     × (does2 vector vector (splitOff 2) U emptyVector ≡ leaves (tray 0 2 (1 ∷ 2 ∷ 0 ∷ 9 ∷ [])) (tray 0 1 (3 ∷ 6 ∷ [])))
     × (does2 vector vector (splitOff 0) U emptyVector ≡ stops 6 U emptyVector)
     × (does2 vector vector (splitOff 3) U emptyVector ≡ leaves U emptyVector)
@@ -94,7 +100,8 @@ unfolding does2 valid entries relaid moved tabulate tally one slotOf posOf
 vector-splits = (refl, refl, refl, refl, refl, refl, refl, refl, refl)
 
 -- clone: the first as it was, T with head 0, its free slots kept. Into a T with one slot too few, into one that isn't empty, and both.
-clones : (does2 ring ring clone W (tray 1 0 (5 ∷ 6 ∷ 7 ∷ [])) ≡ leaves W (tray 0 3 (9 ∷ 10 ∷ 11 ∷ [])))
+clones :
+    (does2 ring ring clone W (tray 1 0 (5 ∷ 6 ∷ 7 ∷ [])) ≡ leaves W (tray 0 3 (9 ∷ 10 ∷ 11 ∷ [])))
     × (does2 ring ring clone W (tray 1 0 (5 ∷ 6 ∷ 7 ∷ 8 ∷ 4 ∷ [])) ≡ leaves W (tray 0 3 (9 ∷ 10 ∷ 11 ∷ 8 ∷ 4 ∷ [])))
     × (does2 ring ring clone W emptyRing ≡ stops 6 W emptyRing)
     × (does2 ring ring clone oneEntry twoEntries ≡ stops 5 oneEntry twoEntries)
@@ -113,7 +120,8 @@ unfolding does2 valid entries relaid moved tabulate tally one slotOf posOf
 clones = (refl, refl, refl, refl, refl, refl, refl, refl, refl, refl, refl, refl, refl, refl, refl)
 
 -- from_iter of a ring: T, a vector, takes what remains, and the cursor's front goes to its back. An ended cursor leaves T empty.
-ring-iters : (does2 ring vector (fromIter (cursor 1 3)) W emptyVector ≡ walked W (tray 0 2 (10 ∷ 11 ∷ [])) (cursor 3 3))
+ring-iters :
+    (does2 ring vector (fromIter (cursor 1 3)) W emptyVector ≡ walked W (tray 0 2 (10 ∷ 11 ∷ [])) (cursor 3 3))
     × (does2 ring vector (fromIter (cursor 0 2)) W emptyVector ≡ walked W (tray 0 2 (9 ∷ 10 ∷ [])) (cursor 2 2))
     × (does2 ring vector (fromIter (cursor 1 2)) W emptyVector ≡ walked W (tray 0 1 (10 ∷ 6 ∷ [])) (cursor 2 2))
     × (does2 ring vector (fromIter (cursor 0 3)) W emptyVector ≡ halts 6 W emptyVector (cursor 0 3))
@@ -127,7 +135,9 @@ unfolding does2 valid entries relaid moved tabulate tally one slotOf posOf
 ring-iters = (refl, refl, refl, refl, refl, refl, refl, refl, refl, refl)
 
 -- from_iter, where two refusals apply; and of a vector.
-vector-iters : (does2 ring vector (fromIter (cursor 1 3)) overfull overfull ≡ halts 1 overfull overfull (cursor 1 3)) × (does2 ring vector (fromIter (cursor 2 1)) W overfull ≡ halts 2 W overfull (cursor 2 1))
+vector-iters :
+    (does2 ring vector (fromIter (cursor 1 3)) overfull overfull ≡ halts 1 overfull overfull (cursor 1 3))
+    × (does2 ring vector (fromIter (cursor 2 1)) W overfull ≡ halts 2 W overfull (cursor 2 1))
     × (does2 ring vector (fromIter (cursor 2 1)) W fullVector ≡ halts 3 W fullVector (cursor 2 1))
     × (does2 ring vector (fromIter (cursor 1 2)) W fullVector ≡ halts 5 W fullVector (cursor 1 2))
     × (does2 ring vector (fromIter (cursor 0 3)) W fullVector ≡ halts 5 W fullVector (cursor 0 3))
@@ -142,7 +152,8 @@ vector-iters = (refl, refl, refl, refl, refl, refl, refl, refl, refl, refl, refl
 
 -- Ring sameness: a free slot that differs does not count, an empty ring has nothing but its capacity and head, and a state that is invalid
 -- is not compared.
-samenesses : (does2 ring ring same W (tray 2 3 (11 ∷ 77 ∷ 9 ∷ 10 ∷ [])) ≡ says 1 W (tray 2 3 (11 ∷ 77 ∷ 9 ∷ 10 ∷ [])))
+samenesses :
+    (does2 ring ring same W (tray 2 3 (11 ∷ 77 ∷ 9 ∷ 10 ∷ [])) ≡ says 1 W (tray 2 3 (11 ∷ 77 ∷ 9 ∷ 10 ∷ [])))
     × (does2 ring ring same emptyRing (tray 1 0 (7 ∷ 8 ∷ [])) ≡ says 1 emptyRing (tray 1 0 (7 ∷ 8 ∷ [])))
     × (does2 ring ring same emptyRing (tray 0 0 (5 ∷ 6 ∷ [])) ≡ says 0 emptyRing (tray 0 0 (5 ∷ 6 ∷ [])))
     × (does2 ring ring same emptyRing (tray 1 0 (5 ∷ 6 ∷ 7 ∷ [])) ≡ says 0 emptyRing (tray 1 0 (5 ∷ 6 ∷ 7 ∷ [])))
@@ -153,7 +164,8 @@ unfolding does2 valid entries relaid moved tabulate tally one slotOf posOf
 samenesses = (refl, refl, refl, refl, refl, refl, refl)
 
 -- W and a ring that differs in one thing: the capacity alone, the head alone, the length either way, the first, second or last entry.
-differences : (does2 ring ring same W (tray 2 3 (0 ∷ 0 ∷ 9 ∷ 10 ∷ 11 ∷ [])) ≡ says 0 W (tray 2 3 (0 ∷ 0 ∷ 9 ∷ 10 ∷ 11 ∷ [])))
+differences :
+    (does2 ring ring same W (tray 2 3 (0 ∷ 0 ∷ 9 ∷ 10 ∷ 11 ∷ [])) ≡ says 0 W (tray 2 3 (0 ∷ 0 ∷ 9 ∷ 10 ∷ 11 ∷ [])))
     × (does2 ring ring same W (tray 1 3 (0 ∷ 9 ∷ 10 ∷ 11 ∷ [])) ≡ says 0 W (tray 1 3 (0 ∷ 9 ∷ 10 ∷ 11 ∷ [])))
     × (does2 ring ring same W (tray 2 2 (11 ∷ 0 ∷ 9 ∷ 10 ∷ [])) ≡ says 0 W (tray 2 2 (11 ∷ 0 ∷ 9 ∷ 10 ∷ [])))
     × (does2 ring ring same W (tray 2 4 (11 ∷ 0 ∷ 9 ∷ 10 ∷ [])) ≡ says 0 W (tray 2 4 (11 ∷ 0 ∷ 9 ∷ 10 ∷ [])))
@@ -164,7 +176,8 @@ unfolding does2 valid entries relaid moved tabulate tally one slotOf posOf
 differences = (refl, refl, refl, refl, refl, refl, refl)
 
 -- Vector equality: equal lengths and equal entries, whatever the capacities and the free slots.
-equalities : (does2 vector vector equal U (tray 0 3 (1 ∷ 2 ∷ 3 ∷ [])) ≡ says 1 U (tray 0 3 (1 ∷ 2 ∷ 3 ∷ [])))
+equalities :
+    (does2 vector vector equal U (tray 0 3 (1 ∷ 2 ∷ 3 ∷ [])) ≡ says 1 U (tray 0 3 (1 ∷ 2 ∷ 3 ∷ [])))
     × (does2 vector vector equal U (tray 0 3 (1 ∷ 2 ∷ 3 ∷ 8 ∷ [])) ≡ says 1 U (tray 0 3 (1 ∷ 2 ∷ 3 ∷ 8 ∷ [])))
     × (does2 vector vector equal emptyVector noSlots ≡ says 1 emptyVector noSlots)
     × (does2 vector vector equal U (tray 0 2 (1 ∷ 2 ∷ 3 ∷ 9 ∷ [])) ≡ says 0 U (tray 0 2 (1 ∷ 2 ∷ 3 ∷ 9 ∷ [])))

@@ -1,5 +1,6 @@
 -- The laws that the proofs of the vector's functions cite, what ties its calls to demand 3, and that each promise leaves one result.
 pub mod Told
 pub mod Lending
+pub mod Entries
 pub mod Ours
 pub mod Once

@@ -19,13 +19,14 @@ impl Vector {
         done(0, 0, 0)
     }
 
-    pub fn with_capacity(slots: &[u32], k: usize) -> Answer
-        ensures { λ r. ⌜ seen r (now (slots .entry)) ≡ made vector (withCapacity k) (now (slots .entry)) ⌝ }
+    pub fn with_capacity(slots: &[u32], capacity: usize) -> Answer
+        ensures { λ r. ⌜ seen r (now (slots .entry)) ≡ made vector (withCapacity capacity) (now (slots .entry)) ⌝ }
     {
-        if 4096 < slots.len() {
+        let cap = slots.len();
+        if 4096 < cap {
             return refused(1, Vector { len: 0 });
         }
-        if slots.len() < k {
+        if cap < capacity {
             return refused(6, Vector { len: 0 });
         }
         done(0, 0, 0)
@@ -35,10 +36,11 @@ impl Vector {
     pub fn from_elem(slots: &mut [u32], k: usize, x: u32) -> Answer
         ensures { λ r. ⌜ seen r (now (slots .exit)) ≡ made vector (fromElem k x) (now (slots .entry)) ⌝ }
     {
-        if 4096 < slots.len() {
+        let cap = slots.len();
+        if 4096 < cap {
             return refused(1, Vector { len: 0 });
         }
-        if slots.len() < k {
+        if cap < k {
             return refused(6, Vector { len: 0 });
         }
         slots::run_fill(slots, 0, k, x);
@@ -84,6 +86,7 @@ impl Vector {
         done(slots[i], 0, len)
     }
 
+    // Whether k more entries have room.
     pub fn reserve(self, slots: &[u32], k: usize) -> Answer
         ensures { λ r. ⌜ seen r (now (slots .entry)) ≡ does vector (look (reserve k)) (tray self (now (slots .entry))) ⌝ }
     {
@@ -98,32 +101,17 @@ impl Vector {
         done(0, 0, len)
     }
 
+    // The slots are lent, so that nothing can fail to be found: this asks what `reserve` asks.
     pub fn try_reserve(self, slots: &[u32], k: usize) -> Answer
         ensures { λ r. ⌜ seen r (now (slots .entry)) ≡ does vector (look (tryReserve k)) (tray self (now (slots .entry))) ⌝ }
     {
-        let cap = slots.len();
-        let len = self.len;
-        if table::invalid_vector(cap, len) {
-            return refused(1, self);
-        }
-        if cap - len < k {
-            return refused(6, self);
-        }
-        done(0, 0, len)
+        self.reserve(slots, k)
     }
 
     pub fn try_reserve_exact(self, slots: &[u32], k: usize) -> Answer
         ensures { λ r. ⌜ seen r (now (slots .entry)) ≡ does vector (look (tryReserveExact k)) (tray self (now (slots .entry))) ⌝ }
     {
-        let cap = slots.len();
-        let len = self.len;
-        if table::invalid_vector(cap, len) {
-            return refused(1, self);
-        }
-        if cap - len < k {
-            return refused(6, self);
-        }
-        done(0, 0, len)
+        self.try_reserve(slots, k)
     }
 
     // The range question: whether `range` would lend what is asked.

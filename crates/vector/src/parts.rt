@@ -9,8 +9,9 @@ impl Vector {
     pub fn range(self, slots: &[u32], a: usize, b: usize) -> &[u32]
         ensures { λ r. ⌜ Lent (lends a b (tray self (now (slots .entry)))) (slots .entry) r ⌝ }
     {
+        let cap = slots.len();
         let len = self.len;
-        if table::invalid_vector(slots.len(), len) {
+        if table::invalid_vector(cap, len) {
             return &slots[0..0];
         }
         if b < a {
@@ -45,8 +46,9 @@ impl Vector {
     pub fn as_mut_slice(self, slots: &mut [u32]) -> &mut [u32]
         ensures { λ r. ⌜ Lent (lendsAll (tray self (now (slots .entry)))) (slots .entry) r ⌝ }
     {
+        let cap = slots.len();
         let len = self.len;
-        if table::invalid_vector(slots.len(), len) {
+        if table::invalid_vector(cap, len) {
             return &mut slots[0..0];
         }
         &mut slots[0..len]

@@ -1,9 +1,6 @@
--- `Vector::try_reserve_exact` meets its promise. Assumes nothing.
+-- `Vector::try_reserve_exact` meets its promise: its row of the table is that of `try_reserve`. Assumes nothing.
 use borrow.Author.Needs.{needs}
 use Rattle.table.specs.Does.{does}
-use Rattle.table.proofs.Valid.{state}
-use Rattle.table.proofs.Looks.{try-exact-done}
-use Rattle.vector.proofs.Told.{refusals, shown}
 use Rattle.vector.proofs.Vector.try_reserve_exact.Statement.{statement}
 use Rattle.vector.proofs.Vector.try_reserve_exact.Tie as tie
 
@@ -13,10 +10,4 @@ try-reserve-exact-spec =
     tie.close
     (tie.spec
     (λ c κs. search needs)
-    (λ c κs. search needs)
-    (λ c. search refusals)
-    (λ c. omega state)
-    (λ c κs. search needs)
-    (λ c. search refusals)
-    (λ c κs. search needs)
-    (λ c. search (try-exact-done, shown)))
+    (λ c. search needs))

@@ -1,4 +1,4 @@
--- Each promise of this crate leaves one result: of two results, with two contents of the slots, that both meet it, each is the other. Assumes nothing.
+-- Each promise of this crate leaves one result: two that both meet it, with the slots as each leaves them, are the same. Assumes nothing.
 use Prim.Native.Nat.{ℕ}
 use mathlib.Core.Path.{_≡_, refl, sym, _∙_}
 use mathlib.Core.List.{List}

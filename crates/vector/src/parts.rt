@@ -42,7 +42,7 @@ impl Vector {
         self.as_slice(slots)
     }
 
-    // For writing: slots 0 to n and no more.
+    // For writing: slots 0 to n and no more. What the slots hold once it is given back no promise can name (docs/EXCEPTIONS.md).
     pub fn as_mut_slice(self, slots: &mut [u32]) -> &mut [u32]
         ensures { λ r. ⌜ Lent (lendsAll (tray self (now (slots .entry)))) (slots .entry) r ⌝ }
     {

@@ -32,3 +32,4 @@ pub mod Refused
 pub mod StaysValid
 pub mod Listed
 pub mod Numbers
+pub mod Upstream

@@ -12,18 +12,21 @@ use lib.Dec.{ltb, leb, eqb}
 use lib.ListN.{length, getD, take, drop, replicate, length-append, length-take, length-replicate, getD-replicate, List·getD-append}
 use lib.Seq.{take-all, take-append-seam, getD-append-add, getD-set-same}
 use Rattle.slots.specs.Lists.{update, insertAt, removeAt}
-use Rattle.slots.specs.Layout.{Kind, place}
+use Rattle.slots.specs.Layout.{Kind, vector, place}
 use Rattle.slots.proofs.Words.{below?}
 use Rattle.slots.proofs.Placing.{entry}
 use Rattle.table.specs.Tray.{Tray, cap, list, invalid}
-use Rattle.table.specs.Calls.{Look, len, isEmpty, read, reserve, tryReserve, tryReserveExact, Making, new, withCapacity, fromElem}
+use Rattle.table.specs.Calls.{Look, len, isEmpty, read, reserve, tryReserve, tryReserveExact, range, Making, new, withCapacity, fromElem}
 use Rattle.table.specs.Calls.{Call, push, pushFront, pop, popFront, insert, remove, swapRemove, write, truncate, resize, clear, extend, look}
 use Rattle.table.specs.Table.{after, begins, makes}
 use Rattle.table.specs.Does.{Outcome, rowOf, does, made}
+use Rattle.table.specs.Numbers.{Astray}
+use Rattle.table.specs.Parts.{Part}
 use Rattle.table.proofs.Refusals.{firstNumber}
 use Rattle.table.proofs.Valid.{fit}
 use Rattle.table.proofs.Done.{many}
 use Rattle.table.proofs.Keeps.{bare-list}
+use Rattle.table.proofs.Parts.{Question, lent, unfit, astray, question}
 use Rattle.table.proofs.Refused.{call-settled, call-refused, call-clear, made-settled, made-refused}
 use Rattle.table.proofs.Listed.{call-listed, made-listed}
 
@@ -221,6 +224,18 @@ module _ (k : Kind) (t : Tray) (o : Outcome) (ok : invalid k t ≡ false) where
   pub pop-answers : o ≡ does k pop t → IfSome (o .number) (length (list k t))
   pop-answers promised = rw (many k t) (by-zero (o .number) (t .len) 4 (numbered k pop t o promised ok))
 
+  -- as `vec.rs` has it: by the list, not by the answer
+  pub pop-some : o ≡ does k pop t → 0 < length (list k t)
+      → (o .number ≡ 0) × (o .value ≡ getD (list k t) (length (list k t) - 1) 0) × (list k (o .tray) ≡ take (length (list k t) - 1) (list k t))
+  pop-some promised some =
+      let done : o .number ≡ 0 = ⊎-elim (λ h. h .0) (λ h. absurd (omega (arith, h .1))) (pop-answers promised) in
+      (done, pop-value k t o promised done, pop-list k t o promised done)
+
+  pub pop-none : o ≡ does k pop t → length (list k t) ≡ 0 → (o .number ≡ 4) × (list k (o .tray) ≡ list k t)
+  pop-none promised none =
+      let empty : o .number ≡ 4 = ⊎-elim (λ h. absurd (omega (arith, h .1))) (λ h. h .0) (pop-answers promised) in
+      (empty, refused-list k pop t o promised 3 empty)
+
   pub pop-front-answers : o ≡ does k popFront t → IfSome (o .number) (length (list k t))
   pop-front-answers promised = rw (many k t) (by-zero (o .number) (t .len) 4 (numbered k popFront t o promised ok))
 
@@ -307,3 +322,13 @@ module _ (k : Kind) (slots : List ℕ) (o : Outcome) where
 
     pub from-elem-answers : (m x : ℕ) → o ≡ made k (fromElem m x) slots → IfHolds (o .number) (length slots) m
     from-elem-answers m x promised = by-lt (o .number) (length slots) m 6 (made-numbered (fromElem m x) promised)
+
+-- A VECTOR'S RANGE, which is asked in a call of its own
+pub range-answers : (t : Tray) (o : Outcome) → invalid vector t ≡ false → (a b : ℕ) → o ≡ does vector (look (range a b)) t
+    → Says (o .number) 0 ((a ≤ b) × (b ≤ length (list vector t))) ⊎ Says (o .number) 3 (Astray a b (length (list vector t)))
+range-answers t o ok a b promised = rw (promised, many vector t) (go (question t a b))
+  where
+    go : {m : ℕ} {p : Part} → Question t a b m p → Says m 0 ((a ≤ b) × (b ≤ t .len)) ⊎ Says m 3 (Astray a b (t .len))
+    go (lent ok le fits) = inl (refl, (le, fits))
+    go (unfit bad) = let z : _≡_ {A = ℕ} 0 1 = cc (bad, ok) in absurd (omega arith)
+    go (astray ok out) = inr (refl, out)

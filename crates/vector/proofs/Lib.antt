@@ -4,3 +4,6 @@ pub mod Lending
 pub mod Entries
 pub mod Ours
 pub mod Once
+-- The laws that the proofs of the vector's functions cite, what ties its calls to demand 3, and upstream's clauses.
+pub mod Upstream
+pub mod UpstreamParts

@@ -133,11 +133,11 @@ module _ (h at count a : ℕ) (s old new : List ℕ) (reach : Reach (length old)
       lay-join place at gap count s old mid new (omega arith) r first more
 
 -- a ring's entries stand in the slots from its head on, and past the last from slot 0 on
-slot-near : (c h e : ℕ) → h + e < c → slotOf c h e ≡ h + e
+pub slot-near : (c h e : ℕ) → h + e < c → slotOf c h e ≡ h + e
 unfolding slotOf
 slot-near c h e lt = mod-eq-of-lt lt
 
-slot-far : (c h e k : ℕ) → h + e ≡ k + c → k < c → slotOf c h e ≡ k
+pub slot-far : (c h e k : ℕ) → h + e ≡ k + c → k < c → slotOf c h e ≡ k
 unfolding slotOf
 slot-far c h e k q lt = ap (λ k. k % c) q ∙ add-mod-right k c ∙ mod-eq-of-lt lt
 
@@ -195,15 +195,22 @@ lay-plain at count s old new fits m =
       high = λ j h g. rw (plain j g) at (m .high j h g);
     }
 
--- a vector's entries are its first slots, and the rest of them its slots from i on
+-- a vector's entries are its first slots, and a part or the rest of them its slots from i on
 pub lay-entries : (place : ℕ → ℕ) (at n : ℕ) (s old new : List ℕ) → Laid place at n s old new → Laid place at n (entries itself n s) old new
 lay-entries place at n s old new m = lay-same place at n s _ old new (λ e h. sym (entry itself n s e h)) m
 
-pub lay-rest : (place : ℕ → ℕ) (at n i : ℕ) (s old new : List ℕ) → n ≤ length s → Laid place at (n - i) (from-on i s) old new
+pub lay-part : (place : ℕ → ℕ) (at n i m : ℕ) (s old new : List ℕ) → n ≤ length s → i + m ≤ n → Laid place at m (from-on i s) old new
+    → Laid place at m (take m (drop i (entries itself n s))) old new
+lay-part place at n i m s old new fits part laid =
+    lay-same place at m _ _ old new
+    (λ e h.
+    getD-on i s e (omega arith)
+    ∙ sym (getD-take m (drop i (entries itself n s)) e 0 h ∙ getD-drop i (entries itself n s) e 0 ∙ entry itself n s (i + e) (omega arith))) laid
+
+pub lay-rest : (place : ℕ → ℕ) (at n i : ℕ) (s old new : List ℕ) → n ≤ length s → i ≤ n → Laid place at (n - i) (from-on i s) old new
     → Laid place at (n - i) (drop i (entries itself n s)) old new
-lay-rest place at n i s old new fits m =
-    lay-same place at (n - i) _ _ old new
-    (λ e h. getD-on i s e (omega arith) ∙ sym (getD-drop i (entries itself n s) e 0 ∙ entry itself n s (i + e) (omega arith))) m
+lay-rest place at n i s old new fits le m =
+    rw (take-all (n - i) (drop i (entries itself n s)) (simp (length-drop, length-entries) (omega arith))) at (lay-part place at n i (n - i) s old new fits (omega arith) m)
 
 -- The list joined with s.
 pub relaid-append : (place pos : ℕ → ℕ) (n count : ℕ) (s slots out : List ℕ) → Placing (length slots) place pos → length s ≡ count → n + count ≤ length slots

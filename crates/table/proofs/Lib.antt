@@ -11,6 +11,7 @@ pub mod Shifted
 pub mod Cut
 pub mod VectorDone
 pub mod Done2
+pub mod Equal
 pub mod Trays
 pub mod Samples
 pub mod Worked
@@ -28,6 +29,7 @@ pub mod Offers
 pub mod Keeps
 pub mod Demand3
 pub mod Unique
+pub mod Named
 pub mod Refused
 pub mod StaysValid
 pub mod Listed

@@ -1,0 +1,18 @@
+-- `cursors::Cursor::ring_iter` meets its promise. Assumes nothing.
+use borrow.Author.Needs.{needs}
+use Rattle.table.specs.Does.{does}
+use Rattle.table.proofs.Looks.{iter-done}
+use Rattle.cursors.proofs.Told.{refusals, shown}
+use Rattle.cursors.proofs.Cursor.ring_iter.Statement.{statement}
+use Rattle.cursors.proofs.Cursor.ring_iter.Tie as tie
+
+pub ring-iter-spec : {M : Type 1} → statement M
+unfolding does
+ring-iter-spec =
+    tie.close
+    (tie.spec
+    (λ c κs. search needs)
+    (λ c κs. search needs)
+    (λ c. search refusals)
+    (λ c κs. search needs)
+    (λ c. search (iter-done, shown)))

@@ -1,0 +1,24 @@
+-- `cursors::Cursor::ring_peek_front` meets its promise. Assumes nothing.
+use borrow.Author.Needs.{needs}
+use Rattle.table.specs.Does.{does}
+use Rattle.table.proofs.Valid.{state}
+use Rattle.table.proofs.Walks.{peek-front-done}
+use Rattle.cursors.proofs.Told.{refusals, shown}
+use Rattle.cursors.proofs.Cursor.ring_peek_front.Statement.{statement}
+use Rattle.cursors.proofs.Cursor.ring_peek_front.Tie as tie
+
+pub ring-peek-front-spec : {M : Type 1} → statement M
+unfolding does
+ring-peek-front-spec =
+    tie.close
+    (tie.spec
+    (λ c κs. search needs)
+    (λ c. search refusals)
+    (λ c. search refusals)
+    (λ c. search refusals)
+    (λ c. search refusals)
+    (λ c. search needs)
+    (λ c κs. omega state)
+    (λ c. search needs)
+    (λ c. search needs)
+    (λ c. search (peek-front-done, shown)))

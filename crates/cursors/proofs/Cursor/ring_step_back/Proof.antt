@@ -1,0 +1,25 @@
+-- `cursors::Cursor::ring_step_back` meets its promise. Assumes nothing.
+use borrow.Author.Needs.{needs}
+use Rattle.table.specs.Does.{does}
+use Rattle.table.proofs.Valid.{state}
+use Rattle.table.proofs.Walks.{step-back-done}
+use Rattle.cursors.proofs.Told.{refusals, shown}
+use Rattle.cursors.proofs.Cursor.ring_step_back.Statement.{statement}
+use Rattle.cursors.proofs.Cursor.ring_step_back.Tie as tie
+
+pub ring-step-back-spec : {M : Type 1} → statement M
+unfolding does
+ring-step-back-spec =
+    tie.close
+    (tie.spec
+    (λ c κs. search needs)
+    (λ c. search refusals)
+    (λ c. search refusals)
+    (λ c. search refusals)
+    (λ c. search refusals)
+    (λ c. search needs)
+    (λ c κs. omega state)
+    (λ c. search needs)
+    (λ c. search needs)
+    (λ c. search needs)
+    (λ c. search (step-back-done, shown)))

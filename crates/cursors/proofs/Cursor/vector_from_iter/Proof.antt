@@ -1,0 +1,36 @@
+-- `cursors::Cursor::vector_from_iter` meets its promise. Assumes nothing.
+use borrow.Author.Needs.{needs}
+use Rattle.table.specs.Does.{does2}
+use Rattle.table.proofs.Valid.{state}
+use Rattle.table.proofs.Done2.{vector-from-iter-done}
+use Rattle.cursors.proofs.Told.{refusals, shown}
+use Rattle.cursors.proofs.Cursor.vector_from_iter.Statement.{statement}
+use Rattle.cursors.proofs.Cursor.vector_from_iter.Tie as tie
+
+pub vector-from-iter-spec : {M : Type 1} → statement M
+unfolding does2
+vector-from-iter-spec =
+    tie.close
+    (tie.spec
+    (λ c κs. search needs)
+    (λ c κs. search needs)
+    (λ c. search refusals depth 9)
+    (λ c κs. search needs)
+    (λ c κs. search needs)
+    (λ c. search refusals depth 9)
+    (λ c κs. search needs)
+    (λ c. search refusals depth 9)
+    (λ c κs. search needs)
+    (λ c. search refusals depth 9)
+    (λ c κs. search needs)
+    (λ c. search refusals depth 9)
+    (λ c κs. search needs)
+    (λ c. search refusals depth 9)
+    (λ c. omega state)
+    (λ c. omega state)
+    (λ c. omega state)
+    (λ c. search needs)
+    (λ c κs. omega state)
+    (λ c κs. search needs)
+    (λ c. search needs)
+    (λ c. search (vector-from-iter-done, shown)))

@@ -1,0 +1,24 @@
+-- `cursors::Cursor::vector_peek_back` meets its promise. Assumes nothing.
+use borrow.Author.Needs.{needs}
+use Rattle.table.specs.Does.{does}
+use Rattle.table.proofs.Valid.{state}
+use Rattle.table.proofs.Walks.{vector-peek-back-done}
+use Rattle.cursors.proofs.Told.{refusals, shown}
+use Rattle.cursors.proofs.Cursor.vector_peek_back.Statement.{statement}
+use Rattle.cursors.proofs.Cursor.vector_peek_back.Tie as tie
+
+pub vector-peek-back-spec : {M : Type 1} → statement M
+unfolding does
+vector-peek-back-spec =
+    tie.close
+    (tie.spec
+    (λ c κs. search needs)
+    (λ c. search refusals)
+    (λ c. search refusals)
+    (λ c. search refusals)
+    (λ c. search refusals)
+    (λ c. search needs)
+    (λ c. search needs)
+    (λ c. omega state)
+    (λ c. omega state)
+    (λ c. search (vector-peek-back-done, shown)))

@@ -1,0 +1,23 @@
+-- `cursors::Cursor::vector_step_front` meets its promise. Assumes nothing.
+use borrow.Author.Needs.{needs}
+use Rattle.table.specs.Does.{does}
+use Rattle.table.proofs.Valid.{state}
+use Rattle.table.proofs.Walks.{vector-step-front-done}
+use Rattle.cursors.proofs.Told.{refusals, shown}
+use Rattle.cursors.proofs.Cursor.vector_step_front.Statement.{statement}
+use Rattle.cursors.proofs.Cursor.vector_step_front.Tie as tie
+
+pub vector-step-front-spec : {M : Type 1} → statement M
+unfolding does
+vector-step-front-spec =
+    tie.close
+    (tie.spec
+    (λ c κs. search needs)
+    (λ c. search refusals)
+    (λ c. search refusals)
+    (λ c. search refusals)
+    (λ c. search refusals)
+    (λ c. omega state)
+    (λ c. omega state)
+    (λ c. search needs)
+    (λ c. search (vector-step-front-done, shown)))

@@ -1,0 +1,108 @@
+-- One answer: any two results that meet a call's generated contract on the same arguments are the same, and so are the contents that from_iter leaves
+-- in T's slots. The step is read back from the number, the value and the cursor. Assumes nothing.
+use Prim.Native.Nat.{ℕ, zero, suc}
+use mathlib.Core.Path.{_≡_, refl, sym, ap, _∙_}
+use mathlib.Core.List.{List}
+use contract.Lifetimes.{Lfts}
+use denote.Ref.{now}
+use denote.Triple.Clauses.{AtExit}
+use borrow.Fn.World.{ArgsD, ResD}
+use Rattle.table.specs.Tray.{Tray, Cursor}
+use Rattle.table.specs.Does.{Outcome, Outcome2}
+use Rattle.cursors.specs.declared.Cursor as code
+use Rattle.cursors.specs.declared.Begun.{Begun}
+use Rattle.cursors.specs.declared.Taken.{Taken}
+use Rattle.cursors.specs.declared.Step.{Step}
+use Rattle.cursors.specs.declared.Step.the-variants.{Entry, Invalid, Astray, Ended}
+use Rattle.cursors.specs.Seen.{seen, seenBegun, seenInto, taking}
+use Rattle.cursors.proofs.Cursor as fn
+
+again : Cursor → code.Cursor
+again u = record { front = u .front; back = u .back }
+
+-- the step that an outcome shows: 0 is an entry, 1, 3 and 4 are the refusals; of the other numbers, which no step has, it may say anything
+answer : (number value : ℕ) → code.Cursor → Step
+answer zero x u = Entry x u
+answer (suc zero) x u = Invalid u
+answer (suc (suc zero)) x u = Astray u
+answer (suc (suc (suc zero))) x u = Astray u
+answer (suc (suc (suc (suc m)))) x u = Ended u
+
+read-back : (r : Step) (t : Tray) → answer (seen r t .number) (seen r t .value) (again (seen r t .cursor)) ≡ r
+unfolding answer again
+read-back (Entry x u) t = refl
+read-back (Invalid u) t = refl
+read-back (Astray u) t = refl
+read-back (Ended u) t = refl
+
+-- every promise of this crate is of one of these three forms: of a step or a peek, of iter and into_iter, and of from_iter
+one : (o : Outcome) (r r′ : Step) (t t′ : Tray) → seen r t ≡ o → seen r′ t′ ≡ o → r ≡ r′
+one o r r′ t t′ p q = sym (read-back r t) ∙ ap (λ (o : Outcome). answer (o .number) (o .value) (again (o .cursor))) (p ∙ sym q) ∙ read-back r′ t′
+
+one-begun : (o : Outcome) (r r′ : Begun) (t t′ : Tray) → seenBegun r t ≡ o → seenBegun r′ t′ ≡ o → r ≡ r′
+one-begun o r r′ t t′ p q = ap (λ (o : Outcome). record { number = o .number; cursor = record { front = o .cursor .front; back = o .cursor .back } }) (p ∙ sym q)
+
+one-into : (o : Outcome2) (r r′ : Taken) (t t′ : Tray) (s2 s2′ : List ℕ) → seenInto r t s2 ≡ o → seenInto r′ t′ s2′ ≡ o → (r ≡ r′) × (s2 ≡ s2′)
+one-into o r r′ t t′ s2 s2′ p q = (
+  ap (λ (o : Outcome2). taking (o .number) (record { front = o .cursor .front; back = o .cursor .back }) (record { len = o .second .len })) (p ∙ sym q),
+  ap (λ (o : Outcome2). o .second .slots) (p ∙ sym q),
+)
+
+-- In what follows a are the arguments, r and r′ are results, and e and e′ the arguments as they are at the return.
+module _ (κs : Lfts 1) where
+  pub ring-iter-once : (a : ArgsD fn.ring_iter.signature κs) (r r′ : ResD fn.ring_iter.signature κs) (e e′ : AtExit fn.ring_iter.ended κs)
+      → fn.ring_iter.Reads.Learnt κs a r e → fn.ring_iter.Reads.Learnt κs a r′ e′ → r ≡ r′
+  ring-iter-once a r r′ e e′ p q = one-begun _ r r′ _ _ p q
+
+  pub ring-into-iter-once : (a : ArgsD fn.ring_into_iter.signature κs) (r r′ : ResD fn.ring_into_iter.signature κs) (e e′ : AtExit fn.ring_into_iter.ended κs)
+      → fn.ring_into_iter.Reads.Learnt κs a r e → fn.ring_into_iter.Reads.Learnt κs a r′ e′ → r ≡ r′
+  ring-into-iter-once a r r′ e e′ p q = one-begun _ r r′ _ _ p q
+
+  pub ring-step-front-once : (a : ArgsD fn.ring_step_front.signature κs) (r r′ : ResD fn.ring_step_front.signature κs) (e e′ : AtExit fn.ring_step_front.ended κs)
+      → fn.ring_step_front.Reads.Learnt κs a r e → fn.ring_step_front.Reads.Learnt κs a r′ e′ → r ≡ r′
+  ring-step-front-once a r r′ e e′ p q = one _ r r′ _ _ p q
+
+  pub ring-step-back-once : (a : ArgsD fn.ring_step_back.signature κs) (r r′ : ResD fn.ring_step_back.signature κs) (e e′ : AtExit fn.ring_step_back.ended κs)
+      → fn.ring_step_back.Reads.Learnt κs a r e → fn.ring_step_back.Reads.Learnt κs a r′ e′ → r ≡ r′
+  ring-step-back-once a r r′ e e′ p q = one _ r r′ _ _ p q
+
+  pub ring-peek-front-once : (a : ArgsD fn.ring_peek_front.signature κs) (r r′ : ResD fn.ring_peek_front.signature κs) (e e′ : AtExit fn.ring_peek_front.ended κs)
+      → fn.ring_peek_front.Reads.Learnt κs a r e → fn.ring_peek_front.Reads.Learnt κs a r′ e′ → r ≡ r′
+  ring-peek-front-once a r r′ e e′ p q = one _ r r′ _ _ p q
+
+  pub ring-peek-back-once : (a : ArgsD fn.ring_peek_back.signature κs) (r r′ : ResD fn.ring_peek_back.signature κs) (e e′ : AtExit fn.ring_peek_back.ended κs)
+      → fn.ring_peek_back.Reads.Learnt κs a r e → fn.ring_peek_back.Reads.Learnt κs a r′ e′ → r ≡ r′
+  ring-peek-back-once a r r′ e e′ p q = one _ r r′ _ _ p q
+
+  pub vector-iter-once : (a : ArgsD fn.vector_iter.signature κs) (r r′ : ResD fn.vector_iter.signature κs) (e e′ : AtExit fn.vector_iter.ended κs)
+      → fn.vector_iter.Reads.Learnt κs a r e → fn.vector_iter.Reads.Learnt κs a r′ e′ → r ≡ r′
+  vector-iter-once a r r′ e e′ p q = one-begun _ r r′ _ _ p q
+
+  pub vector-into-iter-once : (a : ArgsD fn.vector_into_iter.signature κs) (r r′ : ResD fn.vector_into_iter.signature κs) (e e′ : AtExit fn.vector_into_iter.ended κs)
+      → fn.vector_into_iter.Reads.Learnt κs a r e → fn.vector_into_iter.Reads.Learnt κs a r′ e′ → r ≡ r′
+  vector-into-iter-once a r r′ e e′ p q = one-begun _ r r′ _ _ p q
+
+  pub vector-step-front-once : (a : ArgsD fn.vector_step_front.signature κs) (r r′ : ResD fn.vector_step_front.signature κs) (e e′ : AtExit fn.vector_step_front.ended κs)
+      → fn.vector_step_front.Reads.Learnt κs a r e → fn.vector_step_front.Reads.Learnt κs a r′ e′ → r ≡ r′
+  vector-step-front-once a r r′ e e′ p q = one _ r r′ _ _ p q
+
+  pub vector-step-back-once : (a : ArgsD fn.vector_step_back.signature κs) (r r′ : ResD fn.vector_step_back.signature κs) (e e′ : AtExit fn.vector_step_back.ended κs)
+      → fn.vector_step_back.Reads.Learnt κs a r e → fn.vector_step_back.Reads.Learnt κs a r′ e′ → r ≡ r′
+  vector-step-back-once a r r′ e e′ p q = one _ r r′ _ _ p q
+
+  pub vector-peek-front-once : (a : ArgsD fn.vector_peek_front.signature κs) (r r′ : ResD fn.vector_peek_front.signature κs) (e e′ : AtExit fn.vector_peek_front.ended κs)
+      → fn.vector_peek_front.Reads.Learnt κs a r e → fn.vector_peek_front.Reads.Learnt κs a r′ e′ → r ≡ r′
+  vector-peek-front-once a r r′ e e′ p q = one _ r r′ _ _ p q
+
+  pub vector-peek-back-once : (a : ArgsD fn.vector_peek_back.signature κs) (r r′ : ResD fn.vector_peek_back.signature κs) (e e′ : AtExit fn.vector_peek_back.ended κs)
+      → fn.vector_peek_back.Reads.Learnt κs a r e → fn.vector_peek_back.Reads.Learnt κs a r′ e′ → r ≡ r′
+  vector-peek-back-once a r r′ e e′ p q = one _ r r′ _ _ p q
+
+module _ (κs : Lfts 2) where
+  pub ring-from-iter-once : (a : ArgsD fn.ring_from_iter.signature κs) (r r′ : ResD fn.ring_from_iter.signature κs) (e e′ : AtExit fn.ring_from_iter.ended κs)
+      → fn.ring_from_iter.Reads.Learnt κs a r e → fn.ring_from_iter.Reads.Learnt κs a r′ e′ → (r ≡ r′) × (now (e .1 .1 .1 .1 .0) ≡ now (e′ .1 .1 .1 .1 .0))
+  ring-from-iter-once a r r′ e e′ p q = one-into _ r r′ _ _ _ _ p q
+
+  pub vector-from-iter-once : (a : ArgsD fn.vector_from_iter.signature κs) (r r′ : ResD fn.vector_from_iter.signature κs) (e e′ : AtExit fn.vector_from_iter.ended κs)
+      → fn.vector_from_iter.Reads.Learnt κs a r e → fn.vector_from_iter.Reads.Learnt κs a r′ e′ → (r ≡ r′) × (now (e .1 .1 .1 .1 .0) ≡ now (e′ .1 .1 .1 .1 .0))
+  vector-from-iter-once a r r′ e e′ p q = one-into _ r r′ _ _ _ _ p q

@@ -1,0 +1,36 @@
+-- A step is made where it is returned, and `seen` computes on it; what iter and from_iter answer is made by a function, as other answers are.
+-- Assumes nothing.
+use mathlib.Core.Path.{_≡_, ap}
+use mathlib.Core.List.{List}
+use Prim.Native.Nat.{ℕ}
+use Rattle.slots.specs.Layout.{Kind}
+use Rattle.table.specs.Tray.{Tray, nowhere}
+use Rattle.table.specs.Does.{refused, refused2, headIn}
+use Rattle.table.proofs.Refusals
+use Rattle.table.proofs.Looks.{shows}
+use Rattle.table.proofs.Done2.{fills}
+use Rattle.vector.specs.declared.Vector.{Vector}
+use Rattle.vector.specs.Seen.{tray}
+use Rattle.cursors.specs.declared.Cursor.{Cursor}
+use Rattle.cursors.specs.declared.Begun.{Begun}
+use Rattle.cursors.specs.declared.Taken.{Taken}
+use Rattle.cursors.specs.Seen.{cursor, seenBegun, beginning, seenInto, taking}
+
+pub stopped : (t : Tray) (a : Begun) (m : ℕ) → a ≡ beginning m 0 → seenBegun a t ≡ refused t nowhere m
+stopped t a m e = ap (λ a. seenBegun a t) e
+
+pub started : (k : Kind) (t : Tray) (a : Begun) (back : ℕ) → headIn k (t .head) ≡ t .head → a ≡ beginning 0 back
+    → seenBegun a t ≡ shows k t 0 (record { front = 0; back = back })
+started k t a back eh e = rw eh (ap (λ a. seenBegun a t) e)
+
+pub answered : (u : Cursor) (v : Vector) (t : Tray) (s2 : List ℕ) (a : Taken) (m : ℕ) → a ≡ taking m u v
+    → seenInto a t s2 ≡ refused2 t (tray v s2) (cursor u) m
+answered u v t s2 a m e = ap (λ a. seenInto a t s2) e
+
+pub told : (t : Tray) (s2 : List ℕ) (a : Taken) (n back : ℕ) → a ≡ taking 0 (record { front = back; back = back }) (record { len = n })
+    → seenInto a t s2 ≡ fills t n s2 back
+told t s2 a n back e = ap (λ a. seenInto a t s2) e
+
+pub ruleset refusals = (stopped, answered, Refusals.refusals)
+
+pub ruleset shown = (started, told, Refusals.tests)

@@ -1,0 +1,55 @@
+// Cursors by value over a ring or a vector: what a step, a peek, iter and from_iter answer.
+pub mod over_ring; // over_ring.rt: a cursor's calls over a ring
+pub mod over_vector; // over_vector.rt: a cursor's calls over a vector
+
+use vector::Vector;
+ghost use mathlib.Core.Path.{_≡_};
+ghost use Rattle.cursors.specs.Seen.{beginning, taking};
+
+pub struct Cursor {
+    pub front: usize,
+    pub back: usize,
+}
+
+// What a step or a peek answers: the entry with the cursor afterwards, or a refusal with the cursor given.
+pub enum Step {
+    Entry(u32, Cursor),
+    // The container is invalid: 1.
+    Invalid(Cursor),
+    // Without front <= back <= n, or a peek past what remains: 3.
+    Astray(Cursor),
+    // A step of an ended cursor: 4.
+    Ended(Cursor),
+}
+
+// What iter and into_iter answer; the cursor of a refused one is 0, 0.
+pub struct Begun {
+    pub number: u8,
+    pub cursor: Cursor,
+}
+
+// What from_iter answers: the cursor afterwards, and T.
+pub struct Taken {
+    pub number: u8,
+    pub cursor: Cursor,
+    pub vector: Vector,
+}
+
+fn began(number: u8, back: usize) -> Begun
+    ensures { λ r. ⌜ r ≡ beginning number back ⌝ }
+{
+    Begun {
+        number,
+        cursor: Cursor { front: 0, back },
+    }
+}
+
+fn took(number: u8, cursor: Cursor, vector: Vector) -> Taken
+    ensures { λ r. ⌜ r ≡ taking number cursor vector ⌝ }
+{
+    Taken {
+        number,
+        cursor,
+        vector,
+    }
+}

@@ -1,0 +1,179 @@
+// A cursor's calls over a vector. Any cursor at all may be given: without front <= back <= n it is refused.
+use super::Begun;
+use super::Cursor;
+use super::Step;
+use super::Taken;
+use super::began;
+use super::took;
+use vector::Vector;
+ghost use mathlib.Core.Path.{_≡_};
+ghost use Rattle.slots.specs.Layout.{vector};
+ghost use Rattle.table.specs.Calls.{look, iter, intoIter, stepFront, stepBack, peekFront, peekBack, fromIter};
+ghost use Rattle.table.specs.Does.{does, does2};
+ghost use Rattle.vector.specs.Seen.{tray};
+ghost use Rattle.cursors.specs.Seen.{cursor, seen, seenBegun, seenInto};
+
+impl Cursor {
+    pub fn vector_iter(over: Vector, slots: &[u32]) -> Begun
+        ensures { λ r. ⌜ seenBegun r (tray over (now (slots .entry))) ≡ does vector (look iter) (tray over (now (slots .entry))) ⌝ }
+    {
+        let len = over.len;
+        if table::invalid_vector(slots.len(), len) {
+            return began(1, 0);
+        }
+        began(0, len)
+    }
+
+    pub fn vector_into_iter(over: Vector, slots: &[u32]) -> Begun
+        ensures { λ r. ⌜ seenBegun r (tray over (now (slots .entry))) ≡ does vector (look intoIter) (tray over (now (slots .entry))) ⌝ }
+    {
+        let back = over.len;
+        if table::invalid_vector(slots.len(), back) {
+            return began(1, 0);
+        }
+        began(0, back)
+    }
+
+    pub fn vector_step_front(self, over: Vector, slots: &[u32]) -> Step
+        ensures { λ r. ⌜ seen r (tray over (now (slots .entry))) ≡ does vector (look (stepFront (cursor self))) (tray over (now (slots .entry))) ⌝ }
+    {
+        let cap = slots.len();
+        let len = over.len;
+        if table::invalid_vector(cap, len) {
+            return Step::Invalid(self);
+        }
+        let front = self.front;
+        let back = self.back;
+        if back < front {
+            return Step::Astray(self);
+        }
+        if len < back {
+            return Step::Astray(self);
+        }
+        if front == back {
+            return Step::Ended(self);
+        }
+        let at = front;
+        Step::Entry(
+            slots[at],
+            Cursor {
+                front: front + 1,
+                back,
+            },
+        )
+    }
+
+    pub fn vector_step_back(self, over: Vector, slots: &[u32]) -> Step
+        ensures { λ r. ⌜ seen r (tray over (now (slots .entry))) ≡ does vector (look (stepBack (cursor self))) (tray over (now (slots .entry))) ⌝ }
+    {
+        let cap = slots.len();
+        let len = over.len;
+        if table::invalid_vector(cap, len) {
+            return Step::Invalid(self);
+        }
+        let front = self.front;
+        let back = self.back;
+        if back < front {
+            return Step::Astray(self);
+        }
+        if len < back {
+            return Step::Astray(self);
+        }
+        if front == back {
+            return Step::Ended(self);
+        }
+        let at = back - 1;
+        Step::Entry(
+            slots[at],
+            Cursor {
+                front,
+                back: back - 1,
+            },
+        )
+    }
+
+    pub fn vector_peek_front(self, over: Vector, slots: &[u32], k: usize) -> Step
+        ensures { λ r. ⌜ seen r (tray over (now (slots .entry))) ≡ does vector (look (peekFront (cursor self) k)) (tray over (now (slots .entry))) ⌝ }
+    {
+        let cap = slots.len();
+        let len = over.len;
+        if table::invalid_vector(cap, len) {
+            return Step::Invalid(self);
+        }
+        let front = self.front;
+        let back = self.back;
+        if back < front {
+            return Step::Astray(self);
+        }
+        if len < back {
+            return Step::Astray(self);
+        }
+        if back - front <= k {
+            return Step::Astray(self);
+        }
+        let at = front + k;
+        Step::Entry(slots[at], self)
+    }
+
+    pub fn vector_peek_back(self, over: Vector, slots: &[u32], k: usize) -> Step
+        ensures { λ r. ⌜ seen r (tray over (now (slots .entry))) ≡ does vector (look (peekBack (cursor self) k)) (tray over (now (slots .entry))) ⌝ }
+    {
+        let cap = slots.len();
+        let len = over.len;
+        if table::invalid_vector(cap, len) {
+            return Step::Invalid(self);
+        }
+        let front = self.front;
+        let back = self.back;
+        if back < front {
+            return Step::Astray(self);
+        }
+        if len < back {
+            return Step::Astray(self);
+        }
+        if back - front <= k {
+            return Step::Astray(self);
+        }
+        let at = back - 1 - k;
+        Step::Entry(slots[at], self)
+    }
+
+    // T takes the slots of the remaining entries as one run.
+    pub fn vector_from_iter(
+        self,
+        over: Vector,
+        slots: &[u32],
+        to: Vector,
+        theirs: &mut [u32],
+    ) -> Taken
+        ensures { λ r. ⌜ seenInto r (tray over (now (slots .entry))) (now (theirs .exit)) ≡ does2 vector vector (fromIter (cursor self)) (tray over (now (slots .entry))) (tray to (now (theirs .entry))) ⌝ }
+    {
+        let cap = slots.len();
+        let len = over.len;
+        if table::invalid_vector(cap, len) {
+            return took(1, self, to);
+        }
+        let room = theirs.len();
+        let held = to.len;
+        if table::invalid_vector(room, held) {
+            return took(2, self, to);
+        }
+        let front = self.front;
+        let back = self.back;
+        if back < front {
+            return took(3, self, to);
+        }
+        if len < back {
+            return took(3, self, to);
+        }
+        if held != 0 {
+            return took(5, self, to);
+        }
+        if room < back - front {
+            return took(6, self, to);
+        }
+        let count = back - front;
+        slots::copy::run_copy(theirs, 0, &slots[front..], count);
+        took(0, Cursor { front: back, back }, Vector { len: count })
+    }
+}

@@ -1,0 +1,7 @@
+-- The laws that the proofs of the calls on two cite, that each call is an event of demand 3, and that it has one answer.
+pub mod ToldRings
+pub mod ToldVectors
+pub mod OursRings
+pub mod OursVectors
+pub mod OnceRings
+pub mod OnceVectors

@@ -1,0 +1,32 @@
+-- `pairs::rings::append` meets its promise. Assumes nothing.
+use borrow.Author.Needs.{needs}
+use Rattle.table.specs.Does.{does2}
+use Rattle.table.proofs.Valid.{state}
+use Rattle.table.proofs.Done2.{append-none-done, append-done}
+use Rattle.pairs.proofs.ToldRings.{refusals, shown}
+use Rattle.pairs.proofs.rings.append.Statement.{statement}
+use Rattle.pairs.proofs.rings.append.Tie as tie
+
+pub append-spec : {M : Type 1} → statement M
+unfolding does2
+append-spec =
+    tie.close
+    (tie.spec
+    (λ c κs. search needs)
+    (λ c κs. search needs)
+    (λ c. search refusals)
+    (λ c κs. search needs)
+    (λ c κs. search needs)
+    (λ c. search refusals)
+    (λ c. omega state)
+    (λ c κs. search needs)
+    (λ c. search refusals)
+    (λ c κs. search needs)
+    (λ c. search (append-none-done, shown))
+    (λ c κs. omega state)
+    (λ c κs. omega state)
+    (λ c. search needs)
+    (λ c κs. search needs)
+    (λ c. search needs)
+    (λ c. search needs)
+    (λ c. search (append-done, shown)))

@@ -1,0 +1,30 @@
+-- `pairs::rings::clone` meets its promise. Assumes nothing.
+use borrow.Author.Needs.{needs}
+use Rattle.table.specs.Does.{does2}
+use Rattle.table.proofs.Valid.{state}
+use Rattle.table.proofs.Done2.{clone-none-done, clone-done}
+use Rattle.pairs.proofs.ToldRings.{refusals, shown}
+use Rattle.pairs.proofs.rings.clone.Statement.{statement}
+use Rattle.pairs.proofs.rings.clone.Tie as tie
+
+pub clone-spec : {M : Type 1} → statement M
+unfolding does2
+clone-spec =
+    tie.close
+    (tie.spec
+    (λ c κs. search needs)
+    (λ c κs. search needs)
+    (λ c. search refusals depth 9)
+    (λ c κs. search needs)
+    (λ c κs. search needs)
+    (λ c. search refusals depth 9)
+    (λ c κs. search needs)
+    (λ c. search refusals depth 9)
+    (λ c κs. search needs)
+    (λ c. search refusals depth 9)
+    (λ c κs. search needs)
+    (λ c. search (clone-none-done, shown))
+    (λ c κs. omega state)
+    (λ c κs. search needs)
+    (λ c. search needs)
+    (λ c. search (clone-done, shown)))

@@ -1,0 +1,31 @@
+-- `pairs::rings::same` meets its promise. Assumes nothing.
+use borrow.Author.Needs.{needs}
+use Rattle.table.specs.Does.{does2}
+use Rattle.table.proofs.Valid.{state}
+use Rattle.table.proofs.Equal.{other-done, same-done, unlike-done}
+use Rattle.pairs.proofs.ToldRings.{refusals, shown}
+use Rattle.pairs.proofs.rings.same.Statement.{statement}
+use Rattle.pairs.proofs.rings.same.Tie as tie
+
+pub same-spec : {M : Type 1} → statement M
+unfolding does2
+same-spec =
+    tie.close
+    (tie.spec
+    (λ c κs. search needs)
+    (λ c κs. search needs)
+    (λ c. search refusals depth 9)
+    (λ c κs. search needs)
+    (λ c κs. search needs)
+    (λ c. search refusals depth 9)
+    (λ c κs. search needs)
+    (λ c. search (other-done, shown))
+    (λ c κs. search needs)
+    (λ c. search (other-done, shown))
+    (λ c κs. search needs)
+    (λ c. search (other-done, shown))
+    (λ c κs. omega state)
+    (λ c κs. search needs)
+    (λ c. search (same-done, shown))
+    (λ c κs. search needs)
+    (λ c. search (unlike-done, shown)))

@@ -1,0 +1,35 @@
+-- `pairs::rings::split_off` meets its promise. Assumes nothing.
+use borrow.Author.Needs.{needs}
+use Rattle.table.specs.Does.{does2}
+use Rattle.table.proofs.Valid.{state}
+use Rattle.table.proofs.Done2.{split-none-done, split-done}
+use Rattle.pairs.proofs.ToldRings.{refusals, shown}
+use Rattle.pairs.proofs.rings.split_off.Statement.{statement}
+use Rattle.pairs.proofs.rings.split_off.Tie as tie
+
+pub split-off-spec : {M : Type 1} → statement M
+unfolding does2
+split-off-spec =
+    tie.close
+    (tie.spec
+    (λ c κs. search needs)
+    (λ c κs. search needs)
+    (λ c. search refusals depth 9)
+    (λ c κs. search needs)
+    (λ c κs. search needs)
+    (λ c. search refusals depth 9)
+    (λ c κs. search needs)
+    (λ c. search refusals depth 9)
+    (λ c κs. search needs)
+    (λ c. search refusals depth 9)
+    (λ c κs. search needs)
+    (λ c. search refusals depth 9)
+    (λ c κs. search needs)
+    (λ c. search (split-none-done, shown))
+    (λ c κs. omega state)
+    (λ c κs. omega state)
+    (λ c κs. omega state)
+    (λ c κs. search needs)
+    (λ c. search needs)
+    (λ c. search needs)
+    (λ c. search (split-done, shown)))

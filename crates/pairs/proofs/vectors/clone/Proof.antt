@@ -1,0 +1,28 @@
+-- `pairs::vectors::clone` meets its promise. Assumes nothing.
+use borrow.Author.Needs.{needs}
+use Rattle.table.specs.Does.{does2}
+use Rattle.table.proofs.Valid.{state}
+use Rattle.table.proofs.Done2.{vector-clone-done}
+use Rattle.pairs.proofs.ToldVectors.{refusals, shown}
+use Rattle.pairs.proofs.vectors.clone.Statement.{statement}
+use Rattle.pairs.proofs.vectors.clone.Tie as tie
+
+pub clone-spec : {M : Type 1} → statement M
+unfolding does2
+clone-spec =
+    tie.close
+    (tie.spec
+    (λ c κs. search needs)
+    (λ c κs. search needs)
+    (λ c. search refusals)
+    (λ c κs. search needs)
+    (λ c κs. search needs)
+    (λ c. search refusals)
+    (λ c κs. search needs)
+    (λ c. search refusals)
+    (λ c κs. search needs)
+    (λ c. search refusals)
+    (λ c κs. omega state)
+    (λ c κs. search needs)
+    (λ c. search needs)
+    (λ c. search (vector-clone-done, shown)))

@@ -1,0 +1,36 @@
+-- `pairs::vectors::split_off` meets its promise. Assumes nothing.
+use borrow.Author.Needs.{needs}
+use Rattle.table.specs.Does.{does2}
+use Rattle.table.proofs.Valid.{state}
+use Rattle.table.proofs.Done2.{vector-split-done}
+use Rattle.pairs.proofs.ToldVectors.{refusals, shown}
+use Rattle.pairs.proofs.vectors.split_off.Statement.{statement}
+use Rattle.pairs.proofs.vectors.split_off.Tie as tie
+
+pub split-off-spec : {M : Type 1} → statement M
+unfolding does2
+split-off-spec =
+    tie.close
+    (tie.spec
+    (λ c κs. search needs)
+    (λ c κs. search needs)
+    (λ c. search refusals depth 9)
+    (λ c κs. search needs)
+    (λ c κs. search needs)
+    (λ c. search refusals depth 9)
+    (λ c κs. search needs)
+    (λ c. search refusals depth 9)
+    (λ c κs. search needs)
+    (λ c. search refusals depth 9)
+    (λ c κs. search needs)
+    (λ c. search refusals depth 9)
+    (λ c. omega state)
+    (λ c. omega state)
+    (λ c. omega state)
+    (λ c. search needs)
+    (λ c κs. omega state)
+    (λ c κs. omega state)
+    (λ c κs. search needs)
+    (λ c. search needs)
+    (λ c. search needs)
+    (λ c. search (vector-split-done, shown)))

@@ -1,0 +1,3 @@
+-- What the promises on two containers cite.
+pub mod Rings
+pub mod Vectors

@@ -1,0 +1,168 @@
+// Calls on two rings. What is refused is refused before the first slot is written, and entries go over by whole runs of slots. Nothing to carry is
+// a return of its own: a ring on no slots has no slot to carry from or to.
+use ring::Ring;
+ghost use mathlib.Core.Path.{_≡_};
+ghost use Rattle.slots.specs.Layout.{ring};
+ghost use Rattle.table.specs.Calls.{append, splitOff, clone, same};
+ghost use Rattle.table.specs.Does.{does2};
+ghost use Rattle.ring.specs.Seen.{tray};
+ghost use Rattle.pairs.specs.Rings.{seen2, refusing, giving};
+
+// The answer of a call on two: the container named first, and T.
+pub struct Both {
+    pub number: u8,
+    pub value: u32,
+    pub moves: usize,
+    pub first: Ring,
+    pub second: Ring,
+}
+
+// T's entries are joined to the first's, and T is emptied.
+pub fn append(first: Ring, slots: &mut [u32], second: Ring, theirs: &mut [u32]) -> Both
+    ensures { λ r. ⌜ seen2 r (now (slots .exit)) (now (theirs .exit)) ≡ does2 ring ring append (tray first (now (slots .entry))) (tray second (now (theirs .entry))) ⌝ }
+{
+    let cap = slots.len();
+    let head = first.head;
+    let len = first.len;
+    if table::invalid_ring(cap, head, len) {
+        return refused(1, first, second);
+    }
+    let from = second.head;
+    let count = second.len;
+    if table::invalid_ring(theirs.len(), from, count) {
+        return refused(2, first, second);
+    }
+    if cap - len < count {
+        return refused(6, first, second);
+    }
+    if count == 0 {
+        return done(0, head, len, 0, 0);
+    }
+    slots::copy::carry(slots, head, len, theirs, from, count);
+    slots::fill(theirs, from, 0, count, 0);
+    done(0, head, len + count, 0, 0)
+}
+
+// The first keeps its entries before at, and T, which is empty, gets the others.
+pub fn split_off(
+    first: Ring,
+    slots: &mut [u32],
+    at: usize,
+    second: Ring,
+    theirs: &mut [u32],
+) -> Both
+    ensures { λ r. ⌜ seen2 r (now (slots .exit)) (now (theirs .exit)) ≡ does2 ring ring (splitOff at) (tray first (now (slots .entry))) (tray second (now (theirs .entry))) ⌝ }
+{
+    let cap = slots.len();
+    let head = first.head;
+    let len = first.len;
+    if table::invalid_ring(cap, head, len) {
+        return refused(1, first, second);
+    }
+    let room = theirs.len();
+    let count = second.len;
+    if table::invalid_ring(room, second.head, count) {
+        return refused(2, first, second);
+    }
+    if len < at {
+        return refused(3, first, second);
+    }
+    if count != 0 {
+        return refused(5, first, second);
+    }
+    if room < len - at {
+        return refused(6, first, second);
+    }
+    if len <= at {
+        return done(0, head, len, 0, 0);
+    }
+    let from = slots::slot(cap, head, at);
+    slots::copy::carry(theirs, 0, 0, slots, from, len - at);
+    slots::fill(slots, head, at, len, 0);
+    done(0, head, at, 0, len - at)
+}
+
+// T, which is empty, gets a copy of the entries.
+pub fn clone(first: Ring, slots: &[u32], second: Ring, theirs: &mut [u32]) -> Both
+    ensures { λ r. ⌜ seen2 r (now (slots .entry)) (now (theirs .exit)) ≡ does2 ring ring clone (tray first (now (slots .entry))) (tray second (now (theirs .entry))) ⌝ }
+{
+    let head = first.head;
+    let len = first.len;
+    if table::invalid_ring(slots.len(), head, len) {
+        return refused(1, first, second);
+    }
+    let room = theirs.len();
+    let count = second.len;
+    if table::invalid_ring(room, second.head, count) {
+        return refused(2, first, second);
+    }
+    if count != 0 {
+        return refused(5, first, second);
+    }
+    if room < len {
+        return refused(6, first, second);
+    }
+    if len == 0 {
+        return done(0, head, len, 0, 0);
+    }
+    slots::copy::carry(theirs, 0, 0, slots, head, len);
+    done(0, head, len, 0, len)
+}
+
+// Whether capacity, head, length and all occupied slots agree.
+pub fn same(first: Ring, slots: &[u32], second: Ring, theirs: &[u32]) -> Both
+    ensures { λ r. ⌜ seen2 r (now (slots .entry)) (now (theirs .entry)) ≡ does2 ring ring same (tray first (now (slots .entry))) (tray second (now (theirs .entry))) ⌝ }
+{
+    let cap = slots.len();
+    let head = first.head;
+    let len = first.len;
+    if table::invalid_ring(cap, head, len) {
+        return refused(1, first, second);
+    }
+    let room = theirs.len();
+    let from = second.head;
+    let count = second.len;
+    if table::invalid_ring(room, from, count) {
+        return refused(2, first, second);
+    }
+    if cap != room {
+        return done(0, head, len, from, count);
+    }
+    if head != from {
+        return done(0, head, len, from, count);
+    }
+    if len != count {
+        return done(0, head, len, from, count);
+    }
+    if slots::compare::rings(slots, theirs, head, len) {
+        return done(1, head, len, from, count);
+    }
+    done(0, head, len, from, count)
+}
+
+fn refused(number: u8, first: Ring, second: Ring) -> Both
+    ensures { λ r. ⌜ r ≡ refusing number first second ⌝ }
+{
+    Both {
+        number,
+        value: 0,
+        moves: 0,
+        first,
+        second,
+    }
+}
+
+fn done(value: u32, head: usize, len: usize, head2: usize, len2: usize) -> Both
+    ensures { λ r. ⌜ r ≡ giving value head len head2 len2 ⌝ }
+{
+    Both {
+        number: 0,
+        value,
+        moves: 0,
+        first: Ring { head, len },
+        second: Ring {
+            head: head2,
+            len: len2,
+        },
+    }
+}

@@ -1,0 +1,136 @@
+// Calls on two vectors. What is refused is refused before the first slot is written, and entries go over as one run of slots.
+use vector::Vector;
+ghost use mathlib.Core.Path.{_≡_};
+ghost use Rattle.slots.specs.Layout.{vector};
+ghost use Rattle.table.specs.Calls.{append, splitOff, clone, equal};
+ghost use Rattle.table.specs.Does.{does2};
+ghost use Rattle.vector.specs.Seen.{tray};
+ghost use Rattle.pairs.specs.Vectors.{seen2, refusing, giving};
+
+// The answer of a call on two: the container named first, and T.
+pub struct Both {
+    pub number: u8,
+    pub value: u32,
+    pub moves: usize,
+    pub first: Vector,
+    pub second: Vector,
+}
+
+// T's entries are joined to the first's, and T is emptied.
+pub fn append(first: Vector, slots: &mut [u32], second: Vector, theirs: &mut [u32]) -> Both
+    ensures { λ r. ⌜ seen2 r (now (slots .exit)) (now (theirs .exit)) ≡ does2 vector vector append (tray first (now (slots .entry))) (tray second (now (theirs .entry))) ⌝ }
+{
+    let cap = slots.len();
+    let len = first.len;
+    if table::invalid_vector(cap, len) {
+        return refused(1, first, second);
+    }
+    let count = second.len;
+    if table::invalid_vector(theirs.len(), count) {
+        return refused(2, first, second);
+    }
+    if cap - len < count {
+        return refused(6, first, second);
+    }
+    slots::copy::run_copy(slots, len, theirs, count);
+    slots::run_fill(theirs, 0, count, 0);
+    done(0, len + count, 0)
+}
+
+// The first keeps its entries before at, and T, which is empty, gets the others.
+pub fn split_off(
+    first: Vector,
+    slots: &mut [u32],
+    at: usize,
+    second: Vector,
+    theirs: &mut [u32],
+) -> Both
+    ensures { λ r. ⌜ seen2 r (now (slots .exit)) (now (theirs .exit)) ≡ does2 vector vector (splitOff at) (tray first (now (slots .entry))) (tray second (now (theirs .entry))) ⌝ }
+{
+    let len = first.len;
+    if table::invalid_vector(slots.len(), len) {
+        return refused(1, first, second);
+    }
+    let room = theirs.len();
+    let count = second.len;
+    if table::invalid_vector(room, count) {
+        return refused(2, first, second);
+    }
+    if len < at {
+        return refused(3, first, second);
+    }
+    if count != 0 {
+        return refused(5, first, second);
+    }
+    if room < len - at {
+        return refused(6, first, second);
+    }
+    slots::copy::run_copy(theirs, 0, &slots[at..], len - at);
+    slots::run_fill(slots, at, len, 0);
+    done(0, at, len - at)
+}
+
+// T, which is empty, gets a copy of the entries.
+pub fn clone(first: Vector, slots: &[u32], second: Vector, theirs: &mut [u32]) -> Both
+    ensures { λ r. ⌜ seen2 r (now (slots .entry)) (now (theirs .exit)) ≡ does2 vector vector clone (tray first (now (slots .entry))) (tray second (now (theirs .entry))) ⌝ }
+{
+    let len = first.len;
+    if table::invalid_vector(slots.len(), len) {
+        return refused(1, first, second);
+    }
+    let room = theirs.len();
+    let count = second.len;
+    if table::invalid_vector(room, count) {
+        return refused(2, first, second);
+    }
+    if count != 0 {
+        return refused(5, first, second);
+    }
+    if room < len {
+        return refused(6, first, second);
+    }
+    slots::copy::run_copy(theirs, 0, slots, len);
+    done(0, len, len)
+}
+
+// Whether lengths and entries are equal.
+pub fn equal(first: Vector, slots: &[u32], second: Vector, theirs: &[u32]) -> Both
+    ensures { λ r. ⌜ seen2 r (now (slots .entry)) (now (theirs .entry)) ≡ does2 vector vector equal (tray first (now (slots .entry))) (tray second (now (theirs .entry))) ⌝ }
+{
+    let len = first.len;
+    if table::invalid_vector(slots.len(), len) {
+        return refused(1, first, second);
+    }
+    let count = second.len;
+    if table::invalid_vector(theirs.len(), count) {
+        return refused(2, first, second);
+    }
+    if slots::compare::parts(&slots[..len], &theirs[..count]) {
+        return done(1, len, count);
+    }
+    done(0, len, count)
+}
+
+fn refused(number: u8, first: Vector, second: Vector) -> Both
+    ensures { λ r. ⌜ r ≡ refusing number first second ⌝ }
+{
+    Both {
+        number,
+        value: 0,
+        moves: 0,
+        first,
+        second,
+    }
+}
+
+fn done(value: u32, len: usize, len2: usize) -> Both
+    ensures { λ r. ⌜ r ≡ giving value len len2 ⌝ }
+{
+    Both {
+        number: 0,
+        value,
+        moves: 0,
+        first: Vector { len },
+        second: Vector { len: len2 },
+    }
+}

@@ -1,14 +1,14 @@
 # Two commands: `make test` is the gate, `make run` runs the program `tray` on its own input.
 .PHONY: test run
 
-# First the papers and the layout, then everything is proved from nothing. rt ci comes last, so that its 'N passed, M failed'
-# is the last line of stdout. After a failure make adds a line of its own on stderr and exits with 2.
+# First the papers and the layout, then everything is proved from nothing: tools/ci runs rt ci and lets its 'N passed, M failed'
+# through last, once every wrong body was seen refused by itself. After a failure make adds a line on stderr and exits with 2.
 test:
 	@python3 tools/check-layout
 	@python3 tools/check-promises
 	@python3 tools/check-papers
 	@rt fmt --check
-	@rt ci
+	@python3 tools/ci
 
 # What rt says goes to stderr, so that stdout has the program's lines and nothing else. Programs are compiled for x86-64;
 # on another processor rt has run it under its emulator, and the log has the same lines.

@@ -9,18 +9,14 @@ use Rattle.slots.specs.Lists.{tabulate}
 use Rattle.slots.specs.Count.{one, tally}
 use Rattle.slots.specs.Layout.{ring, vector, slotOf, posOf, entries, relaid}
 use Rattle.slots.specs.Moves.{moved}
-use Rattle.table.specs.Tray.{Tray, valid, Cursor, nowhere}
+use Rattle.table.specs.Tray.{valid}
 use Rattle.table.specs.Calls.{push, pushFront, pop, popFront, insert, swapRemove, write, truncate, resize, look, read, append, splitOff, clone, fromIter, new, withCapacity, fromElem}
-use Rattle.table.specs.Does.{Outcome, gives, Outcome2, refused2, does, does2, made}
+use Rattle.table.specs.Does.{Outcome, Outcome2, does, does2, made}
 use Rattle.table.specs.World.{Event, make, on, onTwo, Ours, AllOurs, run, lines, held, standing, standingAll}
 use Rattle.table.specs.Ledger.{modelled, entered, handed, dropped}
-use Rattle.table.proofs.Trays.{tray, answers}
-use Rattle.table.proofs.Samples.{cursor}
+use Rattle.table.proofs.Trays.{tray, cursor, gives, answers}
+use Rattle.table.proofs.Samples.{gives2, answers2, shows2}
 use Rattle.table.proofs.Demand3.{models, demand-3}
-
--- done on two, with value 0 and moves 0
-abbrev leaves : (t t2 : Tray) → Cursor → Outcome2
-leaves t t2 u = record { number = 0; value = 0; moves = 0; first = t; second = t2; cursor = u }
 
 -- Containers 0 and 1 are rings, 2 and 3 vectors; the last making is refused. W of paper 01 is made by calls and case a is done on it; then a
 -- push is refused, entries go over to the other ring and back, copies to a vector, and one of the copies is handed out.
@@ -29,22 +25,23 @@ events =
     make ring new (5 ∷ 0 ∷ 0 ∷ 0 ∷ []) (gives 0 0 0 0 (5 ∷ 0 ∷ 0 ∷ 0 ∷ []))
     ∷ make ring (withCapacity 3) (7 ∷ 7 ∷ 7 ∷ []) (gives 0 0 0 0 (7 ∷ 7 ∷ 7 ∷ []))
     ∷ make vector (fromElem 2 8) (1 ∷ 1 ∷ 1 ∷ []) (gives 0 0 0 2 (8 ∷ 8 ∷ 1 ∷ []))
-    ∷ make vector (withCapacity 3) (6 ∷ 6 ∷ []) (answers 6 (tray 0 0 (6 ∷ 6 ∷ [])))
+    ∷ make vector (fromElem 3 8) (6 ∷ 6 ∷ []) (answers 6 (tray 0 0 (6 ∷ 6 ∷ [])))
     ∷ on 0 (push 11) (gives 0 0 0 1 (11 ∷ 0 ∷ 0 ∷ 0 ∷ []))
     ∷ on 0 (pushFront 10) (gives 0 0 3 2 (11 ∷ 0 ∷ 0 ∷ 10 ∷ []))
     ∷ on 0 (pushFront 9) (gives 0 0 2 3 (11 ∷ 0 ∷ 9 ∷ 10 ∷ []))
     ∷ on 0 (insert 1 8) (gives 0 1 1 4 (11 ∷ 9 ∷ 8 ∷ 10 ∷ []))
     ∷ on 0 (push 8) (answers 6 (tray 1 4 (11 ∷ 9 ∷ 8 ∷ 10 ∷ [])))
-    ∷ onTwo 0 1 (splitOff 2) (leaves (tray 1 2 (0 ∷ 9 ∷ 8 ∷ 0 ∷ [])) (tray 0 2 (10 ∷ 11 ∷ 7 ∷ [])) nowhere)
+    ∷ onTwo 0 1 (splitOff 2) (gives2 (tray 1 2 (0 ∷ 9 ∷ 8 ∷ 0 ∷ [])) (tray 0 2 (10 ∷ 11 ∷ 7 ∷ [])))
     ∷ on 1 popFront (gives 10 0 1 1 (0 ∷ 11 ∷ 7 ∷ []))
     ∷ on 1 (resize 3 8) (gives 0 0 1 3 (8 ∷ 11 ∷ 8 ∷ []))
-    ∷ onTwo 1 0 clone (refused2 (tray 1 3 (8 ∷ 11 ∷ 8 ∷ [])) (tray 1 2 (0 ∷ 9 ∷ 8 ∷ 0 ∷ [])) nowhere 5)
+    ∷ onTwo 1 0 clone (answers2 5 (tray 1 3 (8 ∷ 11 ∷ 8 ∷ [])) (tray 1 2 (0 ∷ 9 ∷ 8 ∷ 0 ∷ [])))
     ∷ on 1 (truncate 2) (gives 0 0 1 2 (0 ∷ 11 ∷ 8 ∷ []))
-    ∷ onTwo 1 3 (fromIter (cursor 0 2)) (leaves (tray 1 2 (0 ∷ 11 ∷ 8 ∷ [])) (tray 0 2 (11 ∷ 8 ∷ [])) (cursor 2 2))
+    ∷ onTwo 1 3 (fromIter (cursor 0 2)) (shows2 (cursor 2 2) (tray 1 2 (0 ∷ 11 ∷ 8 ∷ [])) (tray 0 2 (11 ∷ 8 ∷ [])))
     ∷ on 2 (swapRemove 0) (gives 8 1 0 1 (8 ∷ 0 ∷ 1 ∷ []))
     ∷ on 2 (write 1 8) (answers 3 (tray 0 1 (8 ∷ 0 ∷ 1 ∷ [])))
-    ∷ onTwo 0 1 append (leaves (tray 1 4 (8 ∷ 9 ∷ 8 ∷ 11 ∷ [])) (tray 0 0 (0 ∷ 0 ∷ 0 ∷ [])) nowhere)
+    ∷ onTwo 0 1 append (gives2 (tray 1 4 (8 ∷ 9 ∷ 8 ∷ 11 ∷ [])) (tray 0 0 (0 ∷ 0 ∷ 0 ∷ [])))
     ∷ on 0 (look (read 1)) (gives 8 0 1 4 (8 ∷ 9 ∷ 8 ∷ 11 ∷ []))
+    ∷ on 0 popFront (gives 9 0 2 3 (8 ∷ 0 ∷ 8 ∷ 11 ∷ []))
     ∷ on 3 pop (gives 8 0 0 1 (11 ∷ 0 ∷ []))
     ∷ []
 
@@ -77,17 +74,18 @@ ours =
     then (omega arith, omega arith, omega arith, refl, refl)
     then (omega arith, refl, refl)
     then (omega arith, refl, refl)
+    then (omega arith, refl, refl)
     then tt
 
 -- the lists that the calls and answers tell
-lists : modelled [] (lines events) ≡ (9 ∷ 8 ∷ 11 ∷ 8 ∷ []) ∷ [] ∷ (8 ∷ []) ∷ (11 ∷ []) ∷ []
+lists : modelled [] (lines events) ≡ (8 ∷ 11 ∷ 8 ∷ []) ∷ [] ∷ (8 ∷ []) ∷ (11 ∷ []) ∷ []
 lists = refl
 
 -- and what the slots hold is these
-slots-hold : held (run [] events) ≡ (9 ∷ 8 ∷ 11 ∷ 8 ∷ []) ∷ [] ∷ (8 ∷ []) ∷ (11 ∷ []) ∷ []
+slots-hold : held (run [] events) ≡ (8 ∷ 11 ∷ 8 ∷ []) ∷ [] ∷ (8 ∷ []) ∷ (11 ∷ []) ∷ []
 slots-hold = models events ours
 
--- 8 entered six times (two by from_elem, one by insert, two by the growing resize, one copied by from_iter), was refused twice, was handed out
+-- 8 entered six times (two by from_elem, one by insert, two by the growing resize, one copied by from_iter), not where it was refused; it was handed out
 -- twice, was dropped once and stands three times.
 eights :
     (entered 8 [] (lines events) ≡ 6)

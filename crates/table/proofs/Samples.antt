@@ -1,11 +1,35 @@
--- The trays that the worked cases start from, beside paper 01's W and U. Assumes nothing.
+-- How the worked cases write an outcome, and the trays that they start from, beside those of `Trays`. Assumes nothing.
 use Prim.Native.Nat.{ℕ}
 use mathlib.Core.List.{[], _∷_}
 use Rattle.table.specs.Tray.{Tray, Cursor}
-use Rattle.table.proofs.Trays.{tray}
+use Rattle.table.specs.Does.{Outcome, Outcome2}
+use Rattle.table.proofs.Trays.{tray, cursor}
 
-abbrev pub cursor : (front back : ℕ) → Cursor
-cursor front back = record { front = front; back = back }
+-- Done with this value, the tray as it was; the same with the cursor that comes back; and refused, with the cursor that was given.
+abbrev pub tells : (value : ℕ) → Tray → Outcome
+tells value t = record { number = 0; value = value; moves = 0; tray = t; cursor = cursor 0 0 }
+
+abbrev pub shows : (value : ℕ) → Cursor → Tray → Outcome
+shows value u t = record { number = 0; value = value; moves = 0; tray = t; cursor = u }
+
+abbrev pub stops : (number : ℕ) → Cursor → Tray → Outcome
+stops number u t = record { number = number; value = 0; moves = 0; tray = t; cursor = u }
+
+-- Of two: done, with the trays afterwards; refused; a yes or no; done and refused with a cursor.
+abbrev pub gives2 : (t t2 : Tray) → Outcome2
+gives2 t t2 = record { number = 0; value = 0; moves = 0; first = t; second = t2; cursor = cursor 0 0 }
+
+abbrev pub answers2 : (number : ℕ) → (t t2 : Tray) → Outcome2
+answers2 number t t2 = record { number = number; value = 0; moves = 0; first = t; second = t2; cursor = cursor 0 0 }
+
+abbrev pub tells2 : (value : ℕ) → (t t2 : Tray) → Outcome2
+tells2 value t t2 = record { number = 0; value = value; moves = 0; first = t; second = t2; cursor = cursor 0 0 }
+
+abbrev pub shows2 : Cursor → (t t2 : Tray) → Outcome2
+shows2 u t t2 = record { number = 0; value = 0; moves = 0; first = t; second = t2; cursor = u }
+
+abbrev pub stops2 : (number : ℕ) → Cursor → (t t2 : Tray) → Outcome2
+stops2 number u t t2 = record { number = number; value = 0; moves = 0; first = t; second = t2; cursor = u }
 
 -- on no slots, of either kind
 abbrev pub noSlots : Tray

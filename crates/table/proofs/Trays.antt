@@ -1,5 +1,5 @@
 -- The trays worked by hand of paper 01, cases a to m, proved together: one table, each case computed from the definitions. Each outcome is
--- written out whole. Assumes nothing.
+-- written out whole, in words of its own. Assumes nothing.
 use mathlib.Core.Path.{_≡_, refl}
 use mathlib.Core.List.{List, [], _∷_}
 use Prim.Native.Nat.{ℕ}
@@ -7,17 +7,24 @@ use Rattle.slots.specs.Lists.{tabulate}
 use Rattle.slots.specs.Count.{one, tally}
 use Rattle.slots.specs.Layout.{ring, vector, slotOf, posOf, entries, relaid}
 use Rattle.slots.specs.Moves.{moved}
-use Rattle.table.specs.Tray.{Tray, valid, nowhere}
+use Rattle.table.specs.Tray.{Tray, valid, Cursor}
 use Rattle.table.specs.Calls.{push, pushFront, pop, popFront, insert, remove, swapRemove, truncate, resize}
-use Rattle.table.specs.Does.{Outcome, gives, refused, does}
+use Rattle.table.specs.Does.{Outcome, does}
 
--- head, length and the slots
+-- a state and its slots
 abbrev pub tray : (h n : ℕ) → List ℕ → Tray
 tray h n slots = record { head = h; len = n; slots = slots }
 
--- a refusal: the number, with value 0, moves 0 and the tray as it was (`gives` has value, moves, head, length and the slots)
+abbrev pub cursor : (front back : ℕ) → Cursor
+cursor front back = record { front = front; back = back }
+
+-- done: number 0, the value, the moves, and the state and slots afterwards
+abbrev pub gives : (value moves h n : ℕ) → List ℕ → Outcome
+gives value moves h n slots = record { number = 0; value = value; moves = moves; tray = tray h n slots; cursor = cursor 0 0 }
+
+-- refused: the number, value 0, moves 0, and the state and slots as they were
 abbrev pub answers : (number : ℕ) → Tray → Outcome
-answers number t = refused t nowhere number
+answers number t = record { number = number; value = 0; moves = 0; tray = t; cursor = cursor 0 0 }
 
 -- W is c 4, h 2, n 3, slots 11,0,9,10 (list 9,10,11)
 abbrev pub W : Tray

@@ -7,24 +7,12 @@ use Rattle.slots.specs.Lists.{tabulate}
 use Rattle.slots.specs.Count.{one, tally}
 use Rattle.slots.specs.Layout.{ring, vector, slotOf, posOf, entries, relaid}
 use Rattle.slots.specs.Moves.{moved}
-use Rattle.table.specs.Tray.{Tray, valid, Cursor, nowhere}
+use Rattle.table.specs.Tray.{valid}
 use Rattle.table.specs.Calls.{look, len, isEmpty, read, reserve, tryReserve, tryReserveExact, range, iter, intoIter, stepFront, stepBack, peekFront, peekBack}
-use Rattle.table.specs.Does.{Outcome, refused, does}
+use Rattle.table.specs.Does.{does}
 use Rattle.table.specs.Parts.{Part, lends, lendsAll, inPart}
-use Rattle.table.proofs.Trays.{tray, answers, W, U}
-use Rattle.table.proofs.Samples.{cursor, noSlots, overfull, emptyRing, emptyVector, fullVector}
-
--- done with this value: the tray as it was, and no cursor
-abbrev tells : (value : ℕ) → Tray → Outcome
-tells value t = record { number = 0; value = value; moves = 0; tray = t; cursor = nowhere }
-
--- done with this value: the tray as it was, and this cursor comes back
-abbrev shows : (value : ℕ) → Cursor → Tray → Outcome
-shows value u t = record { number = 0; value = value; moves = 0; tray = t; cursor = u }
-
--- refused: the tray and the cursor as they were
-abbrev stops : (number : ℕ) → Cursor → Tray → Outcome
-stops number u t = refused t u number
+use Rattle.table.proofs.Trays.{tray, cursor, answers, W, U}
+use Rattle.table.proofs.Samples.{tells, shows, stops, noSlots, overfull, emptyRing, emptyVector, fullVector}
 
 -- When a ring is valid: n ≤ c and h < c, or c = h = 0.
 ring-states :

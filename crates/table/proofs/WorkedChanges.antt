@@ -8,8 +8,8 @@ use Rattle.slots.specs.Layout.{ring, vector, slotOf, posOf, entries, relaid}
 use Rattle.slots.specs.Moves.{moved}
 use Rattle.table.specs.Tray.{valid}
 use Rattle.table.specs.Calls.{push, pushFront, pop, popFront, insert, remove, swapRemove, write, truncate, resize, clear, extend}
-use Rattle.table.specs.Does.{gives, does}
-use Rattle.table.proofs.Trays.{tray, answers, W, U}
+use Rattle.table.specs.Does.{does}
+use Rattle.table.proofs.Trays.{tray, gives, answers, W, U}
 use Rattle.table.proofs.Samples.{noSlots, overfull, headOut, emptyRing, oneEntry, fullRing, wrapping, toLast, intoFirst, fromFirst, fromLast, emptyVector, fullVector}
 
 -- push_back and push: into the slot after the last entry, until the container is full.

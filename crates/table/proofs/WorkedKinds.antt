@@ -6,7 +6,7 @@ use Rattle.slots.specs.Layout.{Kind, ring, vector}
 use Rattle.table.specs.Calls.{look, len, isEmpty, read, reserve, tryReserve, tryReserveExact, range, iter, intoIter, stepFront, stepBack, peekFront, peekBack}
 use Rattle.table.specs.Calls.{push, pushFront, pop, popFront, insert, remove, swapRemove, write, truncate, resize, clear, extend}
 use Rattle.table.specs.Calls.{append, splitOff, clone, fromIter, same, equal, new, withCapacity, fromElem, has, has2, hasMaking}
-use Rattle.table.proofs.Samples.{cursor}
+use Rattle.table.proofs.Trays.{cursor}
 
 -- whether a ring has it, and whether a vector has
 abbrev kinds : (Kind → Bool) → List Bool

@@ -6,7 +6,7 @@ use Prim.Native.Nat.{ℕ}
 use Rattle.table.specs.Calls.{push, pushFront, pop, popFront, insert, remove, swapRemove, write, truncate, resize, clear, extend, look, len, read, stepFront, peekFront}
 use Rattle.table.specs.Calls.{append, splitOff, clone, fromIter, same, equal, new, withCapacity, fromElem}
 use Rattle.table.specs.Ledger.{Flow, flow, flow2, flowMade, Lists, making, call, callTwo, listsAfter, flows}
-use Rattle.table.proofs.Samples.{cursor}
+use Rattle.table.proofs.Trays.{cursor}
 
 -- what entered, what was handed out, what was dropped
 abbrev moves : (entered handed dropped : List ℕ) → Flow

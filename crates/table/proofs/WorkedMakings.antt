@@ -9,13 +9,13 @@ use Rattle.slots.specs.Lists.{tabulate}
 use Rattle.slots.specs.Count.{one, tally}
 use Rattle.slots.specs.Layout.{ring, vector, slotOf, posOf, entries, relaid}
 use Rattle.slots.specs.Moves.{moved}
-use Rattle.table.specs.Tray.{Tray, valid, nowhere}
+use Rattle.table.specs.Tray.{valid}
 use Rattle.table.specs.Calls.{push, pop, popFront, insert, remove, resize, clear, look, len, append, new, withCapacity, fromElem}
-use Rattle.table.specs.Does.{gives, refused2, does, does2, made}
+use Rattle.table.specs.Does.{does, does2, made}
 use Rattle.table.proofs.Made.{new-done, with-capacity-done}
 use Rattle.table.proofs.Looks.{len-done}
-use Rattle.table.proofs.Trays.{tray, answers, W}
-use Rattle.table.proofs.Samples.{overfull}
+use Rattle.table.proofs.Trays.{tray, gives, answers, W}
+use Rattle.table.proofs.Samples.{answers2, overfull}
 
 -- `new` and `with_capacity` touch no slot; `with_capacity` is done up to the capacity. A refused making gives state 0, 0.
 makings :
@@ -78,8 +78,8 @@ overs :
     × (does vector (look len) (tray 0 0 over) ≡ answers 1 (tray 0 0 over))
     × (does ring pop (tray 0 0 over) ≡ answers 1 (tray 0 0 over))
     × (does vector pop (tray 0 0 over) ≡ answers 1 (tray 0 0 over))
-    × (does2 ring ring append (tray 0 0 over) overfull ≡ refused2 (tray 0 0 over) overfull nowhere 1)
-    × (does2 ring ring append W (tray 0 0 over) ≡ refused2 W (tray 0 0 over) nowhere 2)
+    × (does2 ring ring append (tray 0 0 over) overfull ≡ answers2 1 (tray 0 0 over) overfull)
+    × (does2 ring ring append W (tray 0 0 over) ≡ answers2 2 W (tray 0 0 over))
 unfolding does does2 made valid entries relaid moved tabulate tally one slotOf posOf
 overs = (refl, refl, refl, refl, refl, refl, refl, refl, refl, refl, refl)
 

@@ -10,7 +10,7 @@ use Rattle.slots.specs.Count.{one, tally}
 use Rattle.slots.specs.Layout.{ring, vector, slotOf, posOf, entries, relaid}
 use Rattle.slots.specs.Moves.{moved}
 use Rattle.table.specs.Tray.{valid}
-use Rattle.table.specs.Calls.{push, pop, popFront, insert, remove, resize, clear, look, len, append, new, withCapacity, fromElem}
+use Rattle.table.specs.Calls.{push, pop, popFront, insert, remove, resize, clear, look, len, reserve, append, new, withCapacity, fromElem}
 use Rattle.table.specs.Does.{does, does2, made}
 use Rattle.table.proofs.Made.{new-done, with-capacity-done}
 use Rattle.table.proofs.Looks.{len-done}
@@ -85,10 +85,10 @@ overs = (refl, refl, refl, refl, refl, refl, refl, refl, refl, refl, refl)
 
 -- 4,096 slots are not too many: a full ring whose head is the last of them, a vector, and what they refuse.
 mosts :
-    (does ring (push 1) (tray 4095 4096 most) ≡ answers 6 (tray 4095 4096 most))
-    × (does ring (push 1) (tray 4096 4096 most) ≡ answers 1 (tray 4096 4096 most))
-    × (does vector (push 1) (tray 0 4096 most) ≡ answers 6 (tray 0 4096 most))
-    × (does vector (push 1) (tray 0 4097 most) ≡ answers 1 (tray 0 4097 most))
+    (does ring (look (reserve 1)) (tray 4095 4096 most) ≡ answers 6 (tray 4095 4096 most))
+    × (does ring (look (reserve 1)) (tray 4096 4096 most) ≡ answers 1 (tray 4096 4096 most))
+    × (does vector (look (reserve 1)) (tray 0 4096 most) ≡ answers 6 (tray 0 4096 most))
+    × (does vector (look (reserve 1)) (tray 0 4097 most) ≡ answers 1 (tray 0 4097 most))
     × (does vector pop (tray 0 0 most) ≡ answers 4 (tray 0 0 most))
     × (made ring (withCapacity 4097) most ≡ answers 6 (tray 0 0 most))
     × (made vector (fromElem 4097 5) most ≡ answers 6 (tray 0 0 most))

@@ -35,3 +35,5 @@ pub mod StaysValid
 pub mod Listed
 pub mod Numbers
 pub mod Upstream
+pub mod UpstreamTwo
+pub mod UpstreamWalks

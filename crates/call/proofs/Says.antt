@@ -1,0 +1,75 @@
+-- What a line says, from its parts: parts of a run of digits are digits, and a number that stands in no table is unknown. Assumes nothing.
+use mathlib.Core.Path.{_≡_, refl, sym, ap, _∙_}
+use mathlib.Core.Bool.{Bool, true, false, cond, _&&_}
+use mathlib.Core.List.{List, [], _∷_}
+use Prim.Native.Nat.{ℕ, zero, suc, _+_, _^_, _≤_, _<_}
+use native.Mathlib.Omega.{arith}
+use borrow.Author.Tests.{eq-eqb, ne-eqb}
+use lib.ListN.{length, take, drop, length-take, length-drop}
+use Rattle.hex.specs.Hex.{isDigit, areDigits}
+use Rattle.call.specs.declared.lines.Said.{Said}
+use Rattle.call.specs.Lines.{under, operation, container, position, value, callSays, said}
+
+and-left : (a b : Bool) → a && b ≡ true → a ≡ true
+and-left true b e = refl
+and-left false b e = e
+
+and-right : (a b : Bool) → a && b ≡ true → b ≡ true
+and-right true b e = e
+and-right false b e = let x : b ≡ true = cc in x
+
+pub digits-take : (k : ℕ) (s : List ℕ) → areDigits s ≡ true → areDigits (take k s) ≡ true
+digits-take zero s e = refl
+digits-take (suc k) [] e = refl
+digits-take (suc k) (b ∷ s) e = rw (and-left (isDigit b) _ e) (digits-take k s (and-right (isDigit b) _ e))
+
+pub digits-drop : (k : ℕ) (s : List ℕ) → areDigits s ≡ true → areDigits (drop k s) ≡ true
+digits-drop zero s e = e
+digits-drop (suc k) [] e = refl
+digits-drop (suc k) (b ∷ s) e = digits-drop k s (and-right (isDigit b) _ e)
+
+-- a number that stands in no row, as the code has it once every row was tried: the first row innermost
+abbrev pub Apart : {A : Type 0} → (n : ℕ) → List (ℕ × A) → (before : Type 0) → Type 0
+Apart n [] before = before
+Apart n (row ∷ rest) before = Apart n rest (before × (n ≡ row .0 → ⊥))
+
+none : {A : Type 0} (n : ℕ) (rows : List (ℕ × A)) (f : A → Said) (before : Type 0) → Apart n rows before → before × (Said.Unknown ≡ under n rows f)
+unfolding under
+none n [] f before apart = (apart, refl)
+none n (row ∷ rest) f before apart =
+    let later = none n rest f (before × (n ≡ row .0 → ⊥)) apart in
+    (later .0 .0, rw (ne-eqb n (row .0) (later .0 .1)) (later .1))
+
+pub unknown : {A : Type 0} (n : ℕ) (rows : List (ℕ × A)) (f : A → Said) (before : Type 0) → Apart n rows before → Said.Unknown ≡ under n rows f
+unknown n rows f before apart = none n rows f before apart .1
+
+-- a part of a line of 16 digits
+pub part-digits : (k from : ℕ) (l : List ℕ) (b : Bool) → b ≡ areDigits l → b ≡ true → areDigits (take k (drop from l)) ≡ true
+part-digits k from l b e t = digits-take k (drop from l) (digits-drop from l (sym e ∙ t))
+
+pub part-short : (k from : ℕ) (l : List ℕ) → length l ≡ 16 → length (take k (drop from l)) ≤ 16
+part-short k from l e = simp (length-take, length-drop) (omega arith)
+
+-- its value has 32 bits
+pub value-fits : (l : List ℕ) (x : ℕ) → length l ≡ 16 → x < 16 ^ length (take 8 (drop 8 l)) → x < 2 ^ 32
+value-fits l x e h =
+    let long : length (take 8 (drop 8 l)) ≡ 8 = simp (length-take, length-drop) (omega arith) in
+    let same : _≡_ {A = ℕ} (16 ^ 8) (2 ^ 32) = refl in
+    let low : x < 16 ^ 8 = rw long at h in
+    omega arith
+
+-- what a line says once its length and digits are seen
+pub says-garbled : (l : List ℕ) → (length l ≡ 16 → ⊥) → Said.Garbled ≡ said l
+unfolding said
+says-garbled l ne = rw (ne-eqb (length l) 16 ne)
+
+pub says-no-digits : (l : List ℕ) (b : Bool) → length l ≡ 16 → b ≡ areDigits l → b ≡ false → Said.Garbled ≡ said l
+unfolding said
+says-no-digits l b e d f = let no : areDigits l ≡ false = sym d ∙ f in rw (eq-eqb (length l) 16 e, no)
+
+pub says-call : (l : List ℕ) (b : Bool) (op c i x : ℕ) (s : Said) → length l ≡ 16 → b ≡ areDigits l → b ≡ true
+    → op ≡ operation l → c ≡ container l → i ≡ position l → x ≡ value l → s ≡ callSays op c i x → s ≡ said l
+unfolding said
+says-call l b op c i x s e d t eo ec ei ex es =
+    let yes : areDigits l ≡ true = sym d ∙ t in
+    rw (eq-eqb (length l) 16 e, yes) (es ∙ cc (eo, ec, ei, ex))

@@ -1,0 +1,87 @@
+-- What a line of `tray` says: a call, or why it is none. Assumes nothing.
+use Prim.Native.Nat.{ℕ}
+use mathlib.Core.Bool.{Bool, true, false, cond, _&&_}
+use mathlib.Core.List.{List, [], _∷_}
+use lib.ListN.{length, take, drop}
+use lib.Dec.{eqb}
+use Rattle.hex.specs.Hex.{areDigits, says}
+use Rattle.call.specs.declared.lines.RingOp as ringOp
+use Rattle.call.specs.declared.lines.VectorOp as vectorOp
+use Rattle.call.specs.declared.lines.Call.{Call}
+use Rattle.call.specs.declared.lines.Said.{Said}
+
+-- 16 lower-case hexadecimal digits
+abbrev pub isLine : List ℕ → Bool
+isLine l = eqb (length l) 16 && areDigits l
+
+-- operation, container, position, value: 1, 1, 2, 4 bytes
+abbrev pub field : (from count : ℕ) → List ℕ → ℕ
+field from count l = says (take count (drop from l))
+
+abbrev pub operation : List ℕ → ℕ
+operation l = field 0 2 l
+
+abbrev pub container : List ℕ → ℕ
+container l = field 2 2 l
+
+abbrev pub position : List ℕ → ℕ
+position l = field 4 4 l
+
+abbrev pub value : List ℕ → ℕ
+value l = field 8 8 l
+
+-- the operations of each kind by their numbers, with position i and value x; a length stands in position
+abbrev pub ringOps : (i x : ℕ) → List (ℕ × ringOp.RingOp)
+ringOps i x =
+    (1, ringOp.RingOp.PushBack x)
+    ∷ (2, ringOp.RingOp.PushFront x)
+    ∷ (3, ringOp.RingOp.PopBack)
+    ∷ (4, ringOp.RingOp.PopFront)
+    ∷ (5, ringOp.RingOp.Insert i x)
+    ∷ (6, ringOp.RingOp.Remove i)
+    ∷ (8, ringOp.RingOp.Append)
+    ∷ (9, ringOp.RingOp.SplitOff i)
+    ∷ (10, ringOp.RingOp.Truncate i)
+    ∷ (11, ringOp.RingOp.Resize i x)
+    ∷ (12, ringOp.RingOp.Clear)
+    ∷ (13, ringOp.RingOp.Read i)
+    ∷ (14, ringOp.RingOp.Write i x)
+    ∷ []
+
+abbrev pub vectorOps : (i x : ℕ) → List (ℕ × vectorOp.VectorOp)
+vectorOps i x =
+    (1, vectorOp.VectorOp.Push x)
+    ∷ (3, vectorOp.VectorOp.Pop)
+    ∷ (5, vectorOp.VectorOp.Insert i x)
+    ∷ (6, vectorOp.VectorOp.Remove i)
+    ∷ (7, vectorOp.VectorOp.SwapRemove i)
+    ∷ (8, vectorOp.VectorOp.Append)
+    ∷ (9, vectorOp.VectorOp.SplitOff i)
+    ∷ (10, vectorOp.VectorOp.Truncate i)
+    ∷ (11, vectorOp.VectorOp.Resize i x)
+    ∷ (12, vectorOp.VectorOp.Clear)
+    ∷ (13, vectorOp.VectorOp.Read i)
+    ∷ (14, vectorOp.VectorOp.Write i x)
+    ∷ []
+
+-- what stands under a number in a table; where nothing does, the line is unknown
+unfoldable pub under : {A : Type 0} → (n : ℕ) → List (ℕ × A) → (A → Said) → Said
+under n [] says = Said.Unknown
+under n (row ∷ rest) says = cond (eqb n (row .0)) (says (row .1)) (under n rest says)
+
+-- rings 0 and 1, vectors 2 and 3; the flag says whether it is the second of its kind
+abbrev pub ringSays : (second : Bool) (op i x : ℕ) → Said
+ringSays second op i x = under op (ringOps i x) (λ o. Said.Call (Call.Ring second o))
+
+abbrev pub vectorSays : (second : Bool) (op i x : ℕ) → Said
+vectorSays second op i x = under op (vectorOps i x) (λ o. Said.Call (Call.Vector second o))
+
+unfoldable pub callSays : (op container i x : ℕ) → Said
+callSays op container i x =
+    under container
+    ((0, ringSays false op i x) ∷ (1, ringSays true op i x) ∷ (2, vectorSays false op i x) ∷ (3, vectorSays true op i x) ∷ [])
+    (λ s. s)
+
+-- garbled before unknown
+unfoldable pub said : (l : List ℕ) → Said
+said l = cond (isLine l) (callSays (operation l) (container l) (position l) (value l)) Said.Garbled

@@ -10,9 +10,9 @@ test:
 	@rt fmt --check
 	@python3 tools/ci
 
-# What rt says goes to stderr, so that stdout has the program's lines and nothing else. Programs are compiled for x86-64;
-# on another processor rt has run it under its emulator, and the log has the same lines.
+# The program on paper 01's listing: its answers, and beside them what they say. What rt says goes to stderr. Programs are compiled
+# for x86-64; on another processor rt has run it under its emulator, and the log has the same lines.
 run:
 	@test -d crates/tray || { echo 'make run: the program tray is not written yet; it will stand in crates/tray.' >&2; exit 1; }
 	@rt check tray >&2
-	@if [ "$$(uname -m)" = x86_64 ]; then target/bin/tray <crates/tray/stdin; else cat target/log/tray.stdout; fi
+	@if [ "$$(uname -m)" = x86_64 ]; then target/bin/tray <crates/tray/stdin; else cat target/log/tray.stdout; fi | python3 tools/show-run crates/tray/stdin

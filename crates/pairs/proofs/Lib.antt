@@ -1,7 +1,9 @@
--- The laws that the proofs of the calls on two cite, that each call is an event of demand 3, and that it has one answer.
+-- The laws that the proofs of the calls on two cite, that each call is an event of demand 3, that it has one answer, and upstream's clauses.
 pub mod ToldRings
 pub mod ToldVectors
 pub mod OursRings
 pub mod OursVectors
 pub mod OnceRings
 pub mod OnceVectors
+pub mod UpstreamRings
+pub mod UpstreamVectors

@@ -15,7 +15,7 @@ use Rattle.call.specs.declared.lines.Said.{Said}
 use Rattle.call.specs.Lines.{said}
 use Rattle.call.specs.Answers.{Tells, tellsOf, tells}
 use Rattle.call.specs.Feeds.{Reader, Midway, Feeds, fresh, answers, takes, feeds, isEmpty, whole, Kept, keeping, ends}
-use Rattle.call.specs.Runs.{linesOf, answered, after}
+use Rattle.call.specs.Runs.{linesOf, finished, answered, after}
 
 -- a run fed, and then another
 abbrev pub then : {L : Type 0} → Feeds L → Feeds L → Feeds L
@@ -66,6 +66,26 @@ feeds-lines w l (b ∷ input) = go (eqb b lf) (feeds-lines (tells w l .world) []
     go true here there =
         ap (λ (s : List ℕ). record { world = outOf (tells w l .world) [] input .world; text = s }) (append-assoc (tells w l .text) _ _)
         ∙ ap (λ (x : Tells). record { world = x .world; text = tells w l .text ++ x .text }) here
+    go false here there = there
+
+-- and before the end of the input, of the lines that an LF ended
+abbrev told : (w : World) (ls : List (List ℕ)) → Tells
+told w ls = record { world = after w ls; text = answered w ls }
+
+abbrev soFar : Feeds (List ℕ) → Tells
+soFar f = record { world = f .state .world; text = f .out }
+
+pub feeds-finished : (w : World) (l input : List ℕ) → soFar (feeds whole (record { world = w; line = l }) input) ≡ told w (finished l input)
+unfolding feeds
+feeds-finished w l [] = refl
+feeds-finished w l (b ∷ input) = go (eqb b lf) (feeds-finished (tells w l .world) [] input) (feeds-finished w (l ++ (b ∷ [])) input)
+  where
+    go : (t : Bool) → soFar (feeds whole (fresh whole (tells w l .world)) input) ≡ told (tells w l .world) (finished [] input)
+        → soFar (feeds whole (record { world = w; line = l ++ (b ∷ []) }) input) ≡ told w (finished (l ++ (b ∷ [])) input)
+        → _≡_ {A = Tells}
+        (record { world = feeds whole (byteOf w l b t .state) input .state .world; text = byteOf w l b t .out ++ feeds whole (byteOf w l b t .state) input .out })
+        (told w (cond t (l ∷ finished [] input) (finished (l ++ (b ∷ [])) input)))
+    go true here there = ap (λ (x : Tells). record { world = x .world; text = tells w l .text ++ x .text }) here
     go false here there = there
 
 -- a line longer than 17 bytes is garbled, and so are its first 17
@@ -165,7 +185,15 @@ ends-same a b s =
     let t : tells (b .state .world) (take (a .state .line .count) (a .state .line .bytes)) ≡ tells (b .state .world) (b .state .line) = ap (tells (b .state .world)) (s .line .text) ∙ tells-kept (b .state .world) (b .state .line) in
     rw (s .world, e, t)
 
--- ALL THAT THE PROGRAM ANSWERS to an input, and where it stands after it.
+-- What the program has answered before the end of its input, and where it stands,
+pub run-so-far : (w : World) (input : List ℕ)
+    → (feeds keeping (fresh keeping w) input .out ≡ answered w (finished [] input)) × (feeds keeping (fresh keeping w) input .state .world ≡ after w (finished [] input))
+run-so-far w input =
+    let s = feeds-same w (keeping .none) [] input holds-none in
+    let l = feeds-finished w [] input in
+    (s .out ∙ ap (λ (t : Tells). t .text) l, s .world ∙ ap (λ (t : Tells). t .world) l)
+
+-- and ALL THAT IT ANSWERS to an input, with where it stands after it.
 pub run-answers : (w : World) (input : List ℕ)
     → (feeds keeping (fresh keeping w) input .out ++ ends keeping (feeds keeping (fresh keeping w) input .state) .text ≡ answered w (linesOf [] input))
     × (ends keeping (feeds keeping (fresh keeping w) input .state) .world ≡ after w (linesOf [] input))

@@ -17,9 +17,10 @@ use Rattle.call.specs.declared.answers.Told.{Told}
 use Rattle.call.specs.declared.feeds.State.{State}
 use Rattle.call.specs.declared.feeds.Step.{Step}
 use Rattle.call.specs.declared.feeds.Fed.{Fed}
+use Rattle.call.specs.declared.feeds.Finish.{Finish}
 use Rattle.call.specs.Seen
 use Rattle.call.specs.Answers.{Tells, tells, toldSeen}
-use Rattle.call.specs.Feeds.{Midway, Feeds, Kept, fresh, answers, takes, feeds, keeping, ends, midway, Ends, endsInto, Fills, fillsAll, room, fills, fedSeen, Puts, puts, stepSeen}
+use Rattle.call.specs.Feeds.{Midway, Feeds, Kept, fresh, answers, takes, feeds, keeping, ends, midway, Ends, endsInto, endedSeen, Fills, fillsAll, room, fills, fedSeen, Puts, puts, stepSeen}
 use Rattle.call.proofs.Answered.{length-tells}
 
 -- a byte of a line is kept, or there is no room for it
@@ -158,3 +159,10 @@ counted s input out laid f e =
     let n : f .count ≡ length put = ap (λ (x : Fills). x .count) e in
     let long : length laid ≡ length (put ++ drop (length put) out) = ap (λ (x : Fills). length (x .out)) e in
     omega (arith, n, long, length-append put (drop (length put) out))
+
+pub end-counted : (t : Tells) (f : Finish) → endedSeen f ≡ endsInto t → f .count ≤ length (f .text)
+end-counted t f e =
+    let zeros : List ℕ = replicate 23 0 in
+    let n : f .count ≡ length (t .text) = ap (λ (x : Ends). x .count) e in
+    let long : length (f .text) ≡ length (t .text ++ drop (length (t .text)) zeros) = ap (λ (x : Ends). length (x .text)) e in
+    omega (arith, n, long, length-append (t .text) (drop (length (t .text)) zeros))

@@ -17,8 +17,8 @@ use Rattle.call.specs.Seen.{world}
 use Rattle.call.specs.Acts.{begun}
 use Rattle.call.specs.Answers.{Tells, tells}
 use Rattle.call.specs.Feeds.{Midway, Feeds, Kept, fresh, feeds, keeping, ends, midway, Ends, endsInto, endedSeen, Fills, room, fills}
-use Rattle.call.specs.Runs.{linesOf, answered, after, happened}
-use Rattle.call.proofs.Blocks.{then, feeds-join, run-answers}
+use Rattle.call.specs.Runs.{linesOf, finished, answered, after, happened}
+use Rattle.call.proofs.Blocks.{then, feeds-join, run-so-far, run-answers}
 use Rattle.call.proofs.Balance.{lines-model, lines-balance}
 use Rattle.call.proofs.acts.start as start·fn
 use Rattle.call.proofs.acts.start.Reads as start·reads
@@ -51,12 +51,17 @@ told-after (line {t} {ls} κs a r e before same learnt) =
     ∙ ap (λ (w : World). tells w (now (a .1 .0)) .world) (told-after before)
     ∙ sym (after-more begun ls (now (a .1 .0)))
 
+-- the balance of some lines, where the program stands after them
+balance : (ls : List (List ℕ)) {w : World} → w ≡ after begun ls → (x : ℕ)
+    → entered x [] (lines (happened ls)) ≡ handed x [] (lines (happened ls)) + dropped x [] (lines (happened ls)) + standingAll x w
+balance ls e x =
+    lines-balance ls x
+    ∙ ap (λ (w : World). handed x [] (lines (happened ls)) + dropped x [] (lines (happened ls)) + standingAll x w) (sym e)
+
 -- DEMAND 3 OF ANY LINES THAT ARE TOLD.
 pub demand-3-of-lines : {t : Trays} {ls : List (List ℕ)} → Told t ls → (x : ℕ)
     → entered x [] (lines (happened ls)) ≡ handed x [] (lines (happened ls)) + dropped x [] (lines (happened ls)) + standingAll x (world t)
-demand-3-of-lines {t} {ls} told x =
-    lines-balance ls x
-    ∙ ap (λ (w : World). handed x [] (lines (happened ls)) + dropped x [] (lines (happened ls)) + standingAll x w) (sym (told-after told))
+demand-3-of-lines {t} {ls} told x = balance ls (told-after told) x
 
 -- `start` and `fresh` were called, and then `feed`, any number of times, with the state last returned: the bytes that were taken, and those
 -- that were answered.
@@ -99,6 +104,19 @@ fed-is (block {s} {input} {out} κs a r e before same learnt) =
     ∙ ap (λ (x : Feeds Kept). then x (feeds keeping (x .state) part)) old
     ∙ cc (put, state)
 
+-- A RUN THAT HAS NOT ENDED, or that ends because its output is closed: it has answered the lines that an LF ended, and demand 3 holds of it.
+module _ {s : State} {input out : List ℕ} (fed : Fed s input out) where
+  pub answers-so-far : out ≡ answered begun (finished [] input)
+  answers-so-far = sym (ap (λ (f : Feeds Kept). f .out) (fed-is fed)) ∙ run-so-far begun input .0
+
+  pub world-so-far : world (s .trays) ≡ after begun (finished [] input)
+  world-so-far = sym (ap (λ (f : Feeds Kept). f .state .world) (fed-is fed)) ∙ run-so-far begun input .1
+
+  pub demand-3-so-far : (x : ℕ)
+      → entered x [] (lines (happened (finished [] input)))
+      ≡ handed x [] (lines (happened (finished [] input))) + dropped x [] (lines (happened (finished [] input))) + standingAll x (world (s .trays))
+  demand-3-so-far x = balance (finished [] input) world-so-far x
+
 -- A WHOLE RUN: every byte that it answers, the last line's answer among them, is what the lines of its input are answered, in their order.
 module _ {s : State} {input out : List ℕ} (fed : Fed s input out)
     (κs : Lfts 0) (a : ArgsD ended·fn.signature κs) (r : ResD ended·fn.signature κs) (e : AtExit ended·fn.ended κs)
@@ -123,10 +141,7 @@ module _ {s : State} {input out : List ℕ} (fed : Fed s input out)
   pub demand-3-of-tray : (x : ℕ)
       → entered x [] (lines (happened (linesOf [] input)))
       ≡ handed x [] (lines (happened (linesOf [] input))) + dropped x [] (lines (happened (linesOf [] input))) + standingAll x (world (r .trays))
-  demand-3-of-tray x =
-      let h : List (List ℕ) = linesOf [] input in
-      lines-balance h x
-      ∙ ap (λ (w : World). handed x [] (lines (happened h)) + dropped x [] (lines (happened h)) + standingAll x w) (sym tray-world)
+  demand-3-of-tray x = balance (linesOf [] input) tray-world x
 
   -- and the model lists that it counts over are what the slots hold
   pub models-of-tray : held (world (r .trays)) ≡ modelled [] (lines (happened (linesOf [] input)))

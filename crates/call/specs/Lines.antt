@@ -5,8 +5,8 @@ use mathlib.Core.List.{List, [], _∷_}
 use lib.ListN.{length, take, drop}
 use lib.Dec.{eqb}
 use Rattle.hex.specs.Hex.{areDigits, says}
-use Rattle.call.specs.declared.lines.RingOp as ringOp
-use Rattle.call.specs.declared.lines.VectorOp as vectorOp
+use Rattle.call.specs.declared.lines.RingOp.{RingOp}
+use Rattle.call.specs.declared.lines.VectorOp.{VectorOp}
 use Rattle.call.specs.declared.lines.Call.{Call}
 use Rattle.call.specs.declared.lines.Said.{Said}
 
@@ -31,37 +31,37 @@ abbrev pub value : List ℕ → ℕ
 value l = field 8 8 l
 
 -- the operations of each kind by their numbers, with position i and value x; a length stands in position
-abbrev pub ringOps : (i x : ℕ) → List (ℕ × ringOp.RingOp)
+abbrev pub ringOps : (i x : ℕ) → List (ℕ × RingOp)
 ringOps i x =
-    (1, ringOp.RingOp.PushBack x)
-    ∷ (2, ringOp.RingOp.PushFront x)
-    ∷ (3, ringOp.RingOp.PopBack)
-    ∷ (4, ringOp.RingOp.PopFront)
-    ∷ (5, ringOp.RingOp.Insert i x)
-    ∷ (6, ringOp.RingOp.Remove i)
-    ∷ (8, ringOp.RingOp.Append)
-    ∷ (9, ringOp.RingOp.SplitOff i)
-    ∷ (10, ringOp.RingOp.Truncate i)
-    ∷ (11, ringOp.RingOp.Resize i x)
-    ∷ (12, ringOp.RingOp.Clear)
-    ∷ (13, ringOp.RingOp.Read i)
-    ∷ (14, ringOp.RingOp.Write i x)
+    (1, RingOp.PushBack x)
+    ∷ (2, RingOp.PushFront x)
+    ∷ (3, RingOp.PopBack)
+    ∷ (4, RingOp.PopFront)
+    ∷ (5, RingOp.Insert i x)
+    ∷ (6, RingOp.Remove i)
+    ∷ (8, RingOp.Append)
+    ∷ (9, RingOp.SplitOff i)
+    ∷ (10, RingOp.Truncate i)
+    ∷ (11, RingOp.Resize i x)
+    ∷ (12, RingOp.Clear)
+    ∷ (13, RingOp.Read i)
+    ∷ (14, RingOp.Write i x)
     ∷ []
 
-abbrev pub vectorOps : (i x : ℕ) → List (ℕ × vectorOp.VectorOp)
+abbrev pub vectorOps : (i x : ℕ) → List (ℕ × VectorOp)
 vectorOps i x =
-    (1, vectorOp.VectorOp.Push x)
-    ∷ (3, vectorOp.VectorOp.Pop)
-    ∷ (5, vectorOp.VectorOp.Insert i x)
-    ∷ (6, vectorOp.VectorOp.Remove i)
-    ∷ (7, vectorOp.VectorOp.SwapRemove i)
-    ∷ (8, vectorOp.VectorOp.Append)
-    ∷ (9, vectorOp.VectorOp.SplitOff i)
-    ∷ (10, vectorOp.VectorOp.Truncate i)
-    ∷ (11, vectorOp.VectorOp.Resize i x)
-    ∷ (12, vectorOp.VectorOp.Clear)
-    ∷ (13, vectorOp.VectorOp.Read i)
-    ∷ (14, vectorOp.VectorOp.Write i x)
+    (1, VectorOp.Push x)
+    ∷ (3, VectorOp.Pop)
+    ∷ (5, VectorOp.Insert i x)
+    ∷ (6, VectorOp.Remove i)
+    ∷ (7, VectorOp.SwapRemove i)
+    ∷ (8, VectorOp.Append)
+    ∷ (9, VectorOp.SplitOff i)
+    ∷ (10, VectorOp.Truncate i)
+    ∷ (11, VectorOp.Resize i x)
+    ∷ (12, VectorOp.Clear)
+    ∷ (13, VectorOp.Read i)
+    ∷ (14, VectorOp.Write i x)
     ∷ []
 
 -- what stands under a number in a table; where nothing does, the line is unknown

@@ -16,6 +16,11 @@ abbrev pub linesOf : (l input : List ℕ) → List (List ℕ)
 linesOf l [] = cond (isEmpty l) [] (l ∷ [])
 linesOf l (b ∷ input) = cond (eqb b lf) (l ∷ linesOf [] input) (linesOf (l ++ (b ∷ [])) input)
 
+-- those of them that an LF ended
+abbrev pub finished : (l input : List ℕ) → List (List ℕ)
+finished l [] = []
+finished l (b ∷ input) = cond (eqb b lf) (l ∷ finished [] input) (finished (l ++ (b ∷ [])) input)
+
 -- what a sequence of lines is answered, and the world after it
 abbrev pub answered : World → List (List ℕ) → List ℕ
 answered w [] = []

@@ -69,10 +69,6 @@ module _ (κs : Lfts 0) where
       → acts·fn.act.Reads.Learnt κs a r e → acts·fn.act.Reads.Learnt κs a r′ e′ → r ≡ r′
   act-once a r r′ e e′ p q = once actedSeen (λ (x : Acts). record { trays = traysOf (x .world); answer = x .answer }) (λ d. refl) _ r r′ p q
 
-  pub line-of-once : (a : ArgsD answers·fn.line_of.signature κs) (r r′ : ResD answers·fn.line_of.signature κs) (e e′ : AtExit answers·fn.line_of.ended κs)
-      → answers·fn.line_of.Reads.Learnt κs a r e → answers·fn.line_of.Reads.Learnt κs a r′ e′ → r ≡ r′
-  line-of-once a r r′ e e′ p q = p ∙ sym q
-
   pub fresh-once : (a : ArgsD feeds·fn.fresh.signature κs) (r r′ : ResD feeds·fn.fresh.signature κs) (e e′ : AtExit feeds·fn.fresh.ended κs)
       → feeds·fn.fresh.Reads.Learnt κs a r e → feeds·fn.fresh.Reads.Learnt κs a r′ e′ → r ≡ r′
   fresh-once a r r′ e e′ p q = once midway stateOf (λ s. refl) _ r r′ p q

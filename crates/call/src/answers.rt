@@ -25,7 +25,7 @@ fn bare(number: u8) -> Answer
 }
 
 // Number, value, moves, head and length, and the line's end.
-pub fn line_of(a: Answer) -> [u8; 23]
+fn line_of(a: Answer) -> [u8; 23]
     ensures { λ r. ⌜ r ≡ lineOf a ⌝ }
 {
     let mut text = [0u8; 23];

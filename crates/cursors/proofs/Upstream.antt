@@ -1,4 +1,4 @@
--- Upstream's clauses of iterators, each from the generated contract of its function, by the table's law of the same name. Upstream's
+-- Upstream's clauses of iterators, each from the generated contract of its function, by the table's law of the call. Upstream's
 -- `remaining` and `into_iter_elts` are the entries from the cursor's front to its back. What a step does to them no clause says; paper 01 decides it.
 -- Assumes nothing.
 use Prim.Native.Nat.{ℕ, _-_}

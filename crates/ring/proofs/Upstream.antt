@@ -1,5 +1,5 @@
 -- Upstream's clauses of `vecdeque.rs`, each from the generated contract of its function, `Learnt`: what a caller knows of a call. One line each, by the
--- table's law of the same name. Assumes nothing.
+-- table's law of the call. Assumes nothing.
 use Prim.Native.Nat.{ℕ, _-_, _≤_, _<_}
 use mathlib.Core.Path.{_≡_}
 use mathlib.Core.Bool.{false}

@@ -1,5 +1,5 @@
 -- Upstream's clauses of `vec.rs` on one vector, each from the generated contract of its function, `Learnt`: what a caller knows of a call. One line
--- each, by the table's law of the same name; the parts are in `UpstreamParts`. Assumes nothing.
+-- each, by the table's law of the call; the parts are in `UpstreamParts`. Assumes nothing.
 use Prim.Native.Nat.{ℕ, _+_, _-_, _≤_, _<_}
 use mathlib.Core.Path.{_≡_}
 use mathlib.Core.Bool.{false}
@@ -123,7 +123,8 @@ module _ (κs : Lfts 1) (v : Vector) (s : RefT (List ℕ)) (r : Answer) (e : AtE
   pub pop-answers : Valid v s → IfSome (r .number) (length (view v s))
   pop-answers ok = law.pop-answers vector _ _ ok learnt
 
-  pub pop-some : Valid v s → 0 < length (view v s) → (r .number ≡ 0) × (r .value ≡ getD (view v s) (length (view v s) - 1) 0) × (view (r .vector) (e .1 .0) ≡ take (length (view v s) - 1) (view v s))
+  pub pop-some : Valid v s → 0 < length (view v s)
+      → (r .number ≡ 0) × (r .value ≡ getD (view v s) (length (view v s) - 1) 0) × (view (r .vector) (e .1 .0) ≡ take (length (view v s) - 1) (view v s))
   pop-some ok = law.pop-some vector _ _ ok learnt
 
   pub pop-none : Valid v s → length (view v s) ≡ 0 → (r .number ≡ 4) × (view (r .vector) (e .1 .0) ≡ view v s)

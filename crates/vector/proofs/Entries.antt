@@ -1,39 +1,20 @@
--- What a vector's parts come to: a part holds exactly the entries of its range; and once the writable part is given back with the numbers ys in it,
--- and nothing else was stored, ys is the list and the slots past the length are as they were. Assumes nothing.
+-- What a vector's writable part leaves: once it is given back with the numbers ys in it, and nothing else was stored, ys is the list and the slots
+-- past the length are as they were. Assumes nothing.
 use mathlib.Core.Path.{_≡_, sym, ap, _∙_}
 use mathlib.Core.Bool.{false}
 use mathlib.Core.List.{List, _++_}
 use Prim.Native.Nat.{ℕ, _+_, _-_, _≤_, _<_}
 use native.Mathlib.Omega.{arith}
-use lib.ListN.{length, getD, take, drop, List·getD-append, length-take, length-drop}
-use lib.Seq.{ext-getD, getD-append-add, getD-take, getD-drop, take-all}
+use lib.ListN.{length, getD, drop, List·getD-append}
+use lib.Seq.{ext-getD, getD-append-add, getD-drop}
 use borrow.Rule.Slice.PartMut.{putMid}
 use Rattle.slots.specs.Layout.{vector, itself}
 use Rattle.slots.proofs.Placing.{length-entries, entry}
-use Rattle.table.specs.Tray.{Tray, list, invalid}
-use Rattle.table.specs.Parts.{lends, lendsAll, inPart}
-use Rattle.table.proofs.Refusals.{inside}
-use Rattle.table.proofs.Valid.{fit}
-use Rattle.table.proofs.Done.{many}
+use Rattle.table.specs.Tray.{list, invalid}
+use Rattle.table.specs.Parts.{lendsAll}
 use Rattle.vector.specs.declared.Vector.{Vector}
 use Rattle.vector.specs.Seen.{tray}
-use Rattle.vector.proofs.Lending.{all-within, both-fail}
-
-module _ (t : Tray) (ok : invalid vector t ≡ false) where
-  pub part-entries : (a b : ℕ) → a ≤ b → b ≤ t .len → inPart (lends a b t) (t .slots) ≡ take (b - a) (drop a (list vector t))
-  part-entries a b le fits =
-      rw (both-fail (invalid vector t) _ ok (inside a b (t .len) le fits))
-      (ext-getD 0 _ _ same-length (λ j h.
-      let lt : j < b - a = omega (arith, simp (length-take, length-drop) at h) in
-      getD-take (b - a) (drop a (t .slots)) j 0 lt
-      ∙ getD-drop a (t .slots) j 0
-      ∙ sym (getD-take (b - a) (drop a (list vector t)) j 0 lt ∙ getD-drop a (list vector t) j 0 ∙ entry itself (t .len) (t .slots) (a + j) (omega arith))))
-    where
-      same-length : length (take (b - a) (drop a (t .slots))) ≡ length (take (b - a) (drop a (list vector t)))
-      same-length = simp (length-take, length-drop, many vector t) (omega (arith, fit vector t ok .fits))
-
-  pub all-entries : inPart (lendsAll t) (t .slots) ≡ list vector t
-  all-entries = part-entries 0 (t .len) (omega arith) (omega arith) ∙ take-all (t .len - 0) (list vector t) (omega (arith, many vector t))
+use Rattle.vector.proofs.Lending.{all-within}
 
 -- The slots with ys where the part was: `putMid` is how a lent part comes back. No promise can name it, since a loan that lives on in a result
 -- shows no contents at exit.

@@ -1,0 +1,83 @@
+-- A word made of an answer says that answer, and the moves of every call fit it. Assumes nothing.
+use mathlib.Core.Path.{_≡_, refl, sym, ap, _∙_}
+use mathlib.Core.Bool.{Bool, true, false, cond}
+use mathlib.Core.List.{List}
+use Prim.Native.Nat.{ℕ, zero, suc, _+_, _*_, _/_, _%_, _≤_, _<_}
+use native.Mathlib.Nat.{le-trans}
+use native.Mathlib.Omega.{arith}
+use lib.Arith.{digits-div, digits-mod}
+use lib.ListN.{length, getD, set, length-set}
+use lib.Seq.{getD-set-same, getD-set-other}
+use Rattle.slots.specs.Count.{one, tally}
+use Rattle.slots.specs.Layout.{Kind, ring, vector, place}
+use Rattle.slots.specs.Moves.{Carried, elsewhere, moved}
+use Rattle.table.specs.Tray.{Tray, cap, list, valid, invalid, nowhere}
+use Rattle.table.specs.Calls.{Call, Look, look}
+use Rattle.table.specs.Table.{after}
+use Rattle.table.specs.Does.{Outcome, refused, headIn, done, does, rowOf, refusalsOf}
+use Rattle.table.proofs.Refusals.{either}
+use Rattle.table.proofs.Done.{done-is}
+use Rattle.table.proofs.Looks.{look-done}
+use Rattle.table.proofs.Valid.{fit, ring-facts, vector-facts}
+use Rattle.ring.specs.declared.Answer.{Answer}
+use Rattle.ring.specs.Seen.{seen}
+use Rattle.exports.specs.Heard.{Worded, heard, ringOf, numberIn, valueIn, movesIn}
+
+-- the digits of a word
+pub worded : (m x k word : ℕ) → k < 16777216 → x < 4294967296 → word ≡ (m * 16777216 + k) * 4294967296 + x → Worded m x k word
+worded m x k word few fits e =
+    let high : word / 4294967296 ≡ m * 16777216 + k = ap (λ w. w / 4294967296) e ∙ digits-div (m * 16777216 + k) fits in
+    record {
+      number = ap (λ w. w / 16777216) high ∙ digits-div m few;
+      value = ap (λ w. w % 4294967296) e ∙ digits-mod (m * 16777216 + k) fits;
+      moves = ap (λ w. w % 16777216) high ∙ digits-mod m few;
+    }
+
+one-small : (b : Bool) → one b ≤ 1
+unfolding one
+one-small true = omega arith
+one-small false = omega arith
+
+tally-small : (n : ℕ) (test : ℕ → Bool) → tally n test ≤ n
+unfolding tally
+tally-small zero test = omega arith
+tally-small (suc n) test = omega (arith, one-small (test zero), tally-small n (λ j. test (suc j)))
+
+moved-small : (was now : ℕ → ℕ) (carry : ℕ → Carried) (n : ℕ) → moved was now carry n ≤ n
+unfolding moved
+moved-small was now carry n = tally-small n (λ j. elsewhere now (was j) (carry j))
+
+small : (k : Kind) (t : Tray) → invalid k t ≡ false → t .len ≤ 4096
+unfolding valid
+small ring t ok = let v = ring-facts (cap t) (t .head) (t .len) ok in omega arith
+small vector t ok = let v = vector-facts (cap t) (t .len) ok in omega arith
+
+-- no call moves more entries than there are
+pub few-moves : (k : Kind) (call : Call) (t : Tray) → does k call t .moves ≤ 4096
+unfolding does
+few-moves k call t =
+    either (λ (o : Outcome). o .moves ≤ 4096) (refused t (rowOf k call t .given)) (refusalsOf k call t)
+    (done k t (after call (list k t)) (rowOf k call t))
+    (λ r. omega arith)
+    (λ clear. le-trans (moved-small (place k (cap t) (t .head)) (place k (cap t) (headIn k (rowOf k call t .head))) (rowOf k call t .carry) (t .len)) (small k t (clear .0)))
+
+pub fits : (m x moves : ℕ) (t′ t : Tray) (k : Kind) (call : Call) → record { number = m; value = x; moves = moves; tray = t′; cursor = nowhere } ≡ does k call t
+    → moves < 16777216
+fits m x moves t′ t k call e = omega (arith, few-moves k call t, ap (λ o. o .moves) e)
+
+-- what is heard of a call is what is seen of it
+pub heard-is : (m x k word : ℕ) (t : Tray) (o : Outcome) → Worded m x k word → record { number = m; value = x; moves = k; tray = t; cursor = nowhere } ≡ o → heard word t ≡ o
+heard-is m x k word t o w e = cc
+
+-- a look leaves the container as it is, so a caller keeps the state that it gave
+look-still : (k : Kind) (q : Look) (t : Tray) → headIn k (t .head) ≡ t .head → does k (look q) t .tray ≡ t
+unfolding does
+look-still k q t none =
+    either (λ (o : Outcome). o .tray ≡ t) (refused t (rowOf k (look q) t .given)) (refusalsOf k (look q) t)
+    (done k t (after (look q) (list k t)) (rowOf k (look q) t))
+    (λ r. refl)
+    (λ clear. ap (λ o. o .tray) (sym (done-is k t (look q) (clear .0) (clear .1)) ∙ sym (look-done k t _ (clear .0) q (clear .1) refl)) ∙ ap (λ h. record { head = h; len = t .len; slots = t .slots }) none)
+
+pub looked-is : (m x k word : ℕ) (t′ t : Tray) (kind : Kind) (q : Look) → Worded m x k word
+    → record { number = m; value = x; moves = k; tray = t′; cursor = nowhere } ≡ does kind (look q) t → headIn kind (t .head) ≡ t .head → heard word t ≡ does kind (look q) t
+looked-is m x k word t′ t kind q w e none = heard-is m x k word t _ w (ap (λ t. record { number = m; value = x; moves = k; tray = t; cursor = nowhere }) (sym (look-still kind q t none) ∙ sym (ap (λ o. o .tray) e)) ∙ e)

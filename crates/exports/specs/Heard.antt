@@ -1,0 +1,33 @@
+-- How a caller in C reads a call: the state is two numbers, or one, and the answer is one word. Assumes nothing.
+use Prim.Native.Nat.{ℕ, _/_, _%_}
+use mathlib.Core.Path.{_≡_}
+use mathlib.Core.List.{List}
+use lib.ListN.{getD}
+use Rattle.table.specs.Tray.{Tray, nowhere}
+use Rattle.table.specs.Does.{Outcome}
+
+-- the value is the word's low 32 bits, the moves are the next 24, the number is the high 8
+abbrev pub valueIn : ℕ → ℕ
+valueIn word = word % 4294967296
+
+abbrev pub movesIn : ℕ → ℕ
+movesIn word = word / 4294967296 % 16777216
+
+abbrev pub numberIn : ℕ → ℕ
+numberIn word = word / 4294967296 / 16777216
+
+-- a ring's state is its head and its length, a vector's its length
+abbrev pub ringOf : (state slots : List ℕ) → Tray
+ringOf state slots = record { head = getD state 0 0; len = getD state 1 0; slots = slots }
+
+abbrev pub vectorOf : (len : ℕ) (slots : List ℕ) → Tray
+vectorOf len slots = record { head = 0; len = len; slots = slots }
+
+abbrev pub heard : (word : ℕ) → Tray → Outcome
+heard word t = record { number = numberIn word; value = valueIn word; moves = movesIn word; tray = t; cursor = nowhere }
+
+-- what the private function `word` makes
+pub record Worded (m x k word : ℕ) : Type 0 where
+  pub number : numberIn word ≡ m
+  pub value : valueIn word ≡ x
+  pub moves : movesIn word ≡ k

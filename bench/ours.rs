@@ -1,0 +1,171 @@
+// The proved calls, as the archive exports them. A caller lends slots that stand at a fixed place, as firmware does.
+use crate::work;
+
+// An answer: the value in the low 32 bits, the moves in the next 24, the number in the high 8.
+type Word = u64;
+type State = [usize; 2]; // a ring's head and length
+
+extern "C" {
+    fn tum_ring_push_back(slots: *mut u32, cap: usize, state: *mut State, x: u32) -> Word;
+    fn tum_ring_push_front(slots: *mut u32, cap: usize, state: *mut State, x: u32) -> Word;
+    fn tum_ring_pop_back(slots: *mut u32, cap: usize, state: *mut State) -> Word;
+    fn tum_ring_pop_front(slots: *mut u32, cap: usize, state: *mut State) -> Word;
+    fn tum_ring_read(slots: *const u32, cap: usize, state: *const State, i: usize) -> Word;
+    fn tum_ring_insert(slots: *mut u32, cap: usize, state: *mut State, i: usize, x: u32) -> Word;
+    fn tum_ring_remove(slots: *mut u32, cap: usize, state: *mut State, i: usize) -> Word;
+    fn tum_ring_clear(slots: *mut u32, cap: usize, state: *mut State) -> Word;
+    fn tum_ring_resize(slots: *mut u32, cap: usize, state: *mut State, k: usize, x: u32) -> Word;
+    fn tum_vector_push(slots: *mut u32, cap: usize, len: *mut usize, x: u32) -> Word;
+    fn tum_vector_pop(slots: *mut u32, cap: usize, len: *mut usize) -> Word;
+    fn tum_vector_read(slots: *const u32, cap: usize, len: *const usize, i: usize) -> Word;
+    fn tum_vector_insert(slots: *mut u32, cap: usize, len: *mut usize, i: usize, x: u32) -> Word;
+    fn tum_vector_remove(slots: *mut u32, cap: usize, len: *mut usize, i: usize) -> Word;
+    fn tum_vector_swap_remove(slots: *mut u32, cap: usize, len: *mut usize, i: usize) -> Word;
+    fn tum_vector_extend_from_slice(slots: *mut u32, cap: usize, len: *mut usize, s: *const u32, count: usize) -> Word;
+    fn tum_vector_truncate(slots: *mut u32, cap: usize, len: *mut usize, k: usize) -> Word;
+}
+
+// Slots that begin 16 bytes after a line of the cache, where the allocator puts those of Rust's containers.
+#[repr(C, align(64))]
+struct Lent {
+    before: [u32; 4],
+    slots: [u32; 4096],
+}
+
+static mut LENT: [Lent; 2] = [const { Lent { before: [0; 4], slots: [0; 4096] } }; 2];
+static mut STATE: [State; 2] = [[0; 2]; 2];
+static mut LEN: usize = 0;
+
+#[inline(always)]
+fn done(w: Word) -> u64 {
+    w >> 56
+}
+
+#[inline(always)]
+fn entry(w: Word) -> Option<u32> {
+    if w >> 56 == 0 { Some(w as u32) } else { None }
+}
+
+// A ring on the first C slots of the run WHICH.
+#[derive(Clone, Copy)]
+pub struct Ring<const C: usize, const WHICH: usize>;
+
+#[derive(Clone, Copy)]
+pub struct Vector<const C: usize>;
+
+macro_rules! of_ring {
+    ($call:ident $(, $arg:expr)*) => {
+        unsafe { $call((&raw mut LENT[WHICH].slots).cast(), C, &raw mut STATE[WHICH] $(, $arg)*) }
+    };
+}
+
+macro_rules! of_vector {
+    ($call:ident $(, $arg:expr)*) => {
+        unsafe { $call((&raw mut LENT[0].slots).cast(), C, &raw mut LEN $(, $arg)*) }
+    };
+}
+
+impl<const C: usize, const WHICH: usize> work::Ring for Ring<C, WHICH> {
+    fn make() -> Self {
+        unsafe { STATE[WHICH] = [0; 2] };
+        Ring
+    }
+
+    #[inline(always)]
+    fn push_back(self, x: u32) -> u64 {
+        done(of_ring!(tum_ring_push_back, x))
+    }
+
+    #[inline(always)]
+    fn push_front(self, x: u32) -> u64 {
+        done(of_ring!(tum_ring_push_front, x))
+    }
+
+    #[inline(always)]
+    fn pop_back(self) -> Option<u32> {
+        entry(of_ring!(tum_ring_pop_back))
+    }
+
+    #[inline(always)]
+    fn pop_front(self) -> Option<u32> {
+        entry(of_ring!(tum_ring_pop_front))
+    }
+
+    #[inline(always)]
+    fn read(self, i: usize) -> Option<u32> {
+        entry(of_ring!(tum_ring_read, i))
+    }
+
+    #[inline(always)]
+    fn insert(self, i: usize, x: u32) -> u64 {
+        done(of_ring!(tum_ring_insert, i, x))
+    }
+
+    #[inline(always)]
+    fn remove(self, i: usize) -> Option<u32> {
+        entry(of_ring!(tum_ring_remove, i))
+    }
+
+    #[inline(always)]
+    fn clear(self) -> u64 {
+        done(of_ring!(tum_ring_clear))
+    }
+
+    #[inline(always)]
+    fn resize(self, k: usize, x: u32) -> u64 {
+        done(of_ring!(tum_ring_resize, k, x))
+    }
+}
+
+impl<const C: usize> work::Vector for Vector<C> {
+    fn make() -> Self {
+        unsafe { LEN = 0 };
+        Vector
+    }
+
+    #[inline(always)]
+    fn push(self, x: u32) -> u64 {
+        done(of_vector!(tum_vector_push, x))
+    }
+
+    #[inline(always)]
+    fn pop(self) -> Option<u32> {
+        entry(of_vector!(tum_vector_pop))
+    }
+
+    #[inline(always)]
+    fn read(self, i: usize) -> Option<u32> {
+        entry(of_vector!(tum_vector_read, i))
+    }
+
+    #[inline(always)]
+    fn insert(self, i: usize, x: u32) -> u64 {
+        done(of_vector!(tum_vector_insert, i, x))
+    }
+
+    #[inline(always)]
+    fn remove(self, i: usize) -> Option<u32> {
+        entry(of_vector!(tum_vector_remove, i))
+    }
+
+    #[inline(always)]
+    fn swap_remove(self, i: usize) -> Option<u32> {
+        entry(of_vector!(tum_vector_swap_remove, i))
+    }
+
+    #[inline(always)]
+    fn truncate(self, k: usize) -> u64 {
+        done(of_vector!(tum_vector_truncate, k))
+    }
+
+    #[inline(always)]
+    fn extend(self, s: &[u32]) -> u64 {
+        done(of_vector!(tum_vector_extend_from_slice, s.as_ptr(), s.len()))
+    }
+
+    // As `new` makes it: no slot is touched.
+    #[inline(always)]
+    fn anew(self) {
+        unsafe { LEN = 0 };
+    }
+}

@@ -1,0 +1,135 @@
+// Rust's own containers at fixed places; each call goes through the crate `rust`.
+use crate::work;
+use std::collections::VecDeque;
+
+static mut DEQUE: [VecDeque<u32>; 2] = [VecDeque::new(), VecDeque::new()];
+static mut VEC: Vec<u32> = Vec::new();
+
+#[derive(Clone, Copy)]
+pub struct Ring<const C: usize, const WHICH: usize>;
+
+#[derive(Clone, Copy)]
+pub struct Vector<const C: usize>;
+
+#[inline(always)]
+fn deque<const WHICH: usize>() -> &'static mut VecDeque<u32> {
+    unsafe { &mut *(&raw mut DEQUE[WHICH]) }
+}
+
+#[inline(always)]
+fn vec() -> &'static mut Vec<u32> {
+    unsafe { &mut *(&raw mut VEC) }
+}
+
+impl<const C: usize, const WHICH: usize> work::Ring for Ring<C, WHICH> {
+    fn make() -> Self {
+        *deque::<WHICH>() = VecDeque::with_capacity(C);
+        Ring
+    }
+
+    #[inline(always)]
+    fn push_back(self, x: u32) -> u64 {
+        rust::deque_push_back(deque::<WHICH>(), x);
+        0
+    }
+
+    #[inline(always)]
+    fn push_front(self, x: u32) -> u64 {
+        rust::deque_push_front(deque::<WHICH>(), x);
+        0
+    }
+
+    #[inline(always)]
+    fn pop_back(self) -> Option<u32> {
+        rust::deque_pop_back(deque::<WHICH>())
+    }
+
+    #[inline(always)]
+    fn pop_front(self) -> Option<u32> {
+        rust::deque_pop_front(deque::<WHICH>())
+    }
+
+    #[inline(always)]
+    fn read(self, i: usize) -> Option<u32> {
+        rust::deque_read(deque::<WHICH>(), i)
+    }
+
+    #[inline(always)]
+    fn insert(self, i: usize, x: u32) -> u64 {
+        rust::deque_insert(deque::<WHICH>(), i, x);
+        0
+    }
+
+    #[inline(always)]
+    fn remove(self, i: usize) -> Option<u32> {
+        rust::deque_remove(deque::<WHICH>(), i)
+    }
+
+    #[inline(always)]
+    fn clear(self) -> u64 {
+        rust::deque_clear(deque::<WHICH>());
+        0
+    }
+
+    #[inline(always)]
+    fn resize(self, k: usize, x: u32) -> u64 {
+        rust::deque_resize(deque::<WHICH>(), k, x);
+        0
+    }
+}
+
+impl<const C: usize> work::Vector for Vector<C> {
+    fn make() -> Self {
+        *vec() = Vec::with_capacity(C);
+        Vector
+    }
+
+    #[inline(always)]
+    fn push(self, x: u32) -> u64 {
+        rust::vec_push(vec(), x);
+        0
+    }
+
+    #[inline(always)]
+    fn pop(self) -> Option<u32> {
+        rust::vec_pop(vec())
+    }
+
+    #[inline(always)]
+    fn read(self, i: usize) -> Option<u32> {
+        rust::vec_read(vec(), i)
+    }
+
+    #[inline(always)]
+    fn insert(self, i: usize, x: u32) -> u64 {
+        rust::vec_insert(vec(), i, x);
+        0
+    }
+
+    #[inline(always)]
+    fn remove(self, i: usize) -> Option<u32> {
+        Some(rust::vec_remove(vec(), i))
+    }
+
+    #[inline(always)]
+    fn swap_remove(self, i: usize) -> Option<u32> {
+        Some(rust::vec_swap_remove(vec(), i))
+    }
+
+    #[inline(always)]
+    fn truncate(self, k: usize) -> u64 {
+        rust::vec_truncate(vec(), k);
+        0
+    }
+
+    #[inline(always)]
+    fn extend(self, s: &[u32]) -> u64 {
+        rust::vec_extend(vec(), s);
+        0
+    }
+
+    #[inline(always)]
+    fn anew(self) {
+        vec().clear();
+    }
+}

@@ -1,0 +1,189 @@
+// What is measured: each piece of work is written once, over what both sides offer, and gives back a number that must come out alike.
+const SPOTS: usize = 1024;
+
+// Positions, the same for both sides.
+pub struct Spots([u32; SPOTS]);
+
+impl Spots {
+    pub fn new() -> Spots {
+        let mut x: u32 = 0x9e37_79b9;
+        Spots(std::array::from_fn(|_| {
+            x ^= x << 13;
+            x ^= x >> 17;
+            x ^= x << 5;
+            x
+        }))
+    }
+
+    // A position below n.
+    #[inline(always)]
+    fn below(&self, k: usize, n: usize) -> usize {
+        ((self.0[k % SPOTS] as u64 * n as u64) >> 32) as usize
+    }
+}
+
+// What comes of the calls: the entries that they gave, added up, and what was refused.
+#[derive(Default, PartialEq, Debug)]
+pub struct Came {
+    sum: u64,
+    refused: u64,
+}
+
+impl Came {
+    #[inline(always)]
+    fn got(&mut self, entry: Option<u32>) {
+        match entry {
+            Some(x) => self.sum += x as u64,
+            None => self.refused += 1,
+        }
+    }
+
+    #[inline(always)]
+    fn did(&mut self, number: u64) {
+        self.refused |= number;
+    }
+}
+
+pub trait Ring: Copy {
+    fn make() -> Self;
+    fn push_back(self, x: u32) -> u64;
+    fn push_front(self, x: u32) -> u64;
+    fn pop_back(self) -> Option<u32>;
+    fn pop_front(self) -> Option<u32>;
+    fn read(self, i: usize) -> Option<u32>;
+    fn insert(self, i: usize, x: u32) -> u64;
+    fn remove(self, i: usize) -> Option<u32>;
+    fn clear(self) -> u64;
+    fn resize(self, k: usize, x: u32) -> u64;
+}
+
+pub trait Vector: Copy {
+    fn make() -> Self;
+    fn push(self, x: u32) -> u64;
+    fn pop(self) -> Option<u32>;
+    fn read(self, i: usize) -> Option<u32>;
+    fn insert(self, i: usize, x: u32) -> u64;
+    fn remove(self, i: usize) -> Option<u32>;
+    fn swap_remove(self, i: usize) -> Option<u32>;
+    fn extend(self, s: &[u32]) -> u64;
+    fn truncate(self, k: usize) -> u64;
+    fn anew(self);
+}
+
+// A ring of n entries whose list runs on from the last slot to slot 0.
+pub fn wrapped<R: Ring>(cap: usize, n: usize) -> R {
+    let r = R::make();
+    for _ in 0..cap - n / 2 {
+        r.push_back(0);
+        r.pop_front();
+    }
+    for k in 0..n {
+        r.push_back(k as u32);
+    }
+    r
+}
+
+pub fn counted<V: Vector>(cap: usize, n: usize) -> V {
+    let v = V::make();
+    for k in 0..n {
+        v.push(k as u32);
+    }
+    v
+}
+
+pub fn ring_queue<R: Ring>(r: R, rounds: usize) -> Came {
+    let mut came = Came::default();
+    for k in 0..rounds {
+        came.did(r.push_back(k as u32));
+        came.got(r.pop_front());
+    }
+    came
+}
+
+pub fn ring_queue_back<R: Ring>(r: R, rounds: usize) -> Came {
+    let mut came = Came::default();
+    for k in 0..rounds {
+        came.did(r.push_front(k as u32));
+        came.got(r.pop_back());
+    }
+    came
+}
+
+pub fn ring_read<R: Ring>(r: R, n: usize, spots: &Spots, rounds: usize) -> Came {
+    let mut came = Came::default();
+    for k in 0..rounds {
+        came.got(r.read(spots.below(k, n)));
+    }
+    came
+}
+
+pub fn ring_shift<R: Ring>(r: R, n: usize, spots: &Spots, rounds: usize) -> Came {
+    let mut came = Came::default();
+    for k in 0..rounds {
+        came.did(r.insert(spots.below(k, n + 1), k as u32));
+        came.got(r.remove(spots.below(k + 7, n + 1)));
+    }
+    came
+}
+
+pub fn ring_refill<R: Ring>(r: R, n: usize, rounds: usize) -> Came {
+    let mut came = Came::default();
+    for k in 0..rounds {
+        came.did(r.clear());
+        came.did(r.resize(n, k as u32));
+    }
+    came
+}
+
+pub fn vector_stack<V: Vector>(v: V, rounds: usize) -> Came {
+    let mut came = Came::default();
+    for k in 0..rounds {
+        came.did(v.push(k as u32));
+        came.got(v.pop());
+    }
+    came
+}
+
+pub fn vector_read<V: Vector>(v: V, n: usize, spots: &Spots, rounds: usize) -> Came {
+    let mut came = Came::default();
+    for k in 0..rounds {
+        came.got(v.read(spots.below(k, n)));
+    }
+    came
+}
+
+pub fn vector_shift<V: Vector>(v: V, n: usize, spots: &Spots, rounds: usize) -> Came {
+    let mut came = Came::default();
+    for k in 0..rounds {
+        came.did(v.insert(spots.below(k, n + 1), k as u32));
+        came.got(v.remove(spots.below(k + 7, n + 1)));
+    }
+    came
+}
+
+pub fn vector_swap<V: Vector>(v: V, n: usize, spots: &Spots, rounds: usize) -> Came {
+    let mut came = Came::default();
+    for k in 0..rounds {
+        came.got(v.swap_remove(spots.below(k, n)));
+        came.did(v.push(k as u32));
+    }
+    came
+}
+
+pub fn vector_extend<V: Vector>(v: V, s: &[u32], rounds: usize) -> Came {
+    let mut came = Came::default();
+    for _ in 0..rounds {
+        v.anew();
+        came.did(v.extend(s));
+    }
+    came
+}
+
+pub fn vector_extend_truncate<V: Vector>(v: V, n: usize, s: &[u32], rounds: usize) -> Came {
+    let mut came = Came::default();
+    for _ in 0..rounds {
+        came.did(v.extend(s));
+        came.did(v.truncate(n));
+    }
+    came
+}

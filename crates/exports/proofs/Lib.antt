@@ -1,2 +1,3 @@
 -- The laws of this crate.
 pub mod Words
+pub mod Steps

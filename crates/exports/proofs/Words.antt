@@ -11,17 +11,18 @@ use lib.Seq.{getD-set-same, getD-set-other}
 use Rattle.slots.specs.Count.{one, tally}
 use Rattle.slots.specs.Layout.{Kind, ring, vector, place}
 use Rattle.slots.specs.Moves.{Carried, elsewhere, moved}
-use Rattle.table.specs.Tray.{Tray, cap, list, valid, invalid, nowhere}
-use Rattle.table.specs.Calls.{Call, Look, look}
+use Rattle.table.specs.Tray.{Tray, cap, list, valid, invalid, Cursor, nowhere}
+use Rattle.table.specs.Calls.{Call, Look, look, Call2}
 use Rattle.table.specs.Table.{after}
-use Rattle.table.specs.Does.{Outcome, refused, headIn, done, does, rowOf, refusalsOf}
+use Rattle.table.specs.Does.{Outcome, Outcome2, does2, refused, headIn, done, does, rowOf, refusalsOf}
 use Rattle.table.proofs.Refusals.{either}
 use Rattle.table.proofs.Done.{done-is}
 use Rattle.table.proofs.Looks.{look-done}
+use Rattle.table.proofs.Moves.{moves-of2}
 use Rattle.table.proofs.Valid.{fit, ring-facts, vector-facts}
 use Rattle.ring.specs.declared.Answer.{Answer}
 use Rattle.ring.specs.Seen.{seen}
-use Rattle.exports.specs.Heard.{Worded, heard, ringOf, numberIn, valueIn, movesIn}
+use Rattle.exports.specs.Heard.{Worded, heardAt, heard, heard2}
 
 -- the digits of a word
 pub worded : (m x k word : ℕ) → k < 16777216 → x < 4294967296 → word ≡ (m * 16777216 + k) * 4294967296 + x → Worded m x k word
@@ -65,9 +66,21 @@ pub fits : (m x moves : ℕ) (t′ t : Tray) (k : Kind) (call : Call) → record
     → moves < 16777216
 fits m x moves t′ t k call e = omega (arith, few-moves k call t, ap (λ o. o .moves) e)
 
+pub fits2 : (m x moves : ℕ) (t′ t2′ t t2 : Tray) (k k2 : Kind) (call : Call2)
+    → record { number = m; value = x; moves = moves; first = t′; second = t2′; cursor = nowhere } ≡ does2 k k2 call t t2 → moves < 16777216
+fits2 m x moves t′ t2′ t t2 k k2 call e = omega (arith, moves-of2 k k2 call t t2, ap (λ o. o .moves) e)
+
 -- what is heard of a call is what is seen of it
+pub heard-at : (m x k word : ℕ) (t : Tray) (u : Cursor) (o : Outcome) → Worded m x k word
+    → record { number = m; value = x; moves = k; tray = t; cursor = u } ≡ o → heardAt word t u ≡ o
+heard-at m x k word t u o w e = cc
+
 pub heard-is : (m x k word : ℕ) (t : Tray) (o : Outcome) → Worded m x k word → record { number = m; value = x; moves = k; tray = t; cursor = nowhere } ≡ o → heard word t ≡ o
-heard-is m x k word t o w e = cc
+heard-is m x k word t o w e = heard-at m x k word t nowhere o w e
+
+pub heard2-is : (m x k word : ℕ) (t t2 : Tray) (o : Outcome2) → Worded m x k word
+    → record { number = m; value = x; moves = k; first = t; second = t2; cursor = nowhere } ≡ o → heard2 word t t2 ≡ o
+heard2-is m x k word t t2 o w e = cc
 
 -- a look leaves the container as it is, so a caller keeps the state that it gave
 look-still : (k : Kind) (q : Look) (t : Tray) → headIn k (t .head) ≡ t .head → does k (look q) t .tray ≡ t

@@ -3,8 +3,8 @@ use Prim.Native.Nat.{ℕ, _/_, _%_}
 use mathlib.Core.Path.{_≡_}
 use mathlib.Core.List.{List}
 use lib.ListN.{getD}
-use Rattle.table.specs.Tray.{Tray, nowhere}
-use Rattle.table.specs.Does.{Outcome}
+use Rattle.table.specs.Tray.{Tray, Cursor, nowhere}
+use Rattle.table.specs.Does.{Outcome, Outcome2}
 
 -- the value is the word's low 32 bits, the moves are the next 24, the number is the high 8
 abbrev pub valueIn : ℕ → ℕ
@@ -23,8 +23,19 @@ ringOf state slots = record { head = getD state 0 0; len = getD state 1 0; slots
 abbrev pub vectorOf : (len : ℕ) (slots : List ℕ) → Tray
 vectorOf len slots = record { head = 0; len = len; slots = slots }
 
+-- a cursor is its front and its back
+abbrev pub cursorOf : List ℕ → Cursor
+cursorOf numbers = record { front = getD numbers 0 0; back = getD numbers 1 0 }
+
+abbrev pub heardAt : (word : ℕ) → Tray → Cursor → Outcome
+heardAt word t u = record { number = numberIn word; value = valueIn word; moves = movesIn word; tray = t; cursor = u }
+
+-- a call that has no cursor
 abbrev pub heard : (word : ℕ) → Tray → Outcome
-heard word t = record { number = numberIn word; value = valueIn word; moves = movesIn word; tray = t; cursor = nowhere }
+heard word t = heardAt word t nowhere
+
+abbrev pub heard2 : (word : ℕ) → (t t2 : Tray) → Outcome2
+heard2 word t t2 = record { number = numberIn word; value = valueIn word; moves = movesIn word; first = t; second = t2; cursor = nowhere }
 
 -- what the private function `word` makes
 pub record Worded (m x k word : ℕ) : Type 0 where

@@ -2,6 +2,8 @@
 // word: the value in the low 32 bits, the moves in the next 24, the number in the high 8. Each promise is the row of the call's name.
 pub mod rings; // rings.rt: the calls on a ring
 pub mod vectors; // vectors.rt: the calls on a vector
+pub mod two; // two.rt: the calls on two rings
+pub mod walks; // walks.rt: a cursor over a ring
 
 ghost use Prim.Native.Nat.{_<_};
 ghost use Rattle.exports.specs.Heard.{Worded};

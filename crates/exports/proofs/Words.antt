@@ -12,11 +12,11 @@ use Rattle.slots.specs.Count.{one, tally}
 use Rattle.slots.specs.Layout.{Kind, ring, vector, place}
 use Rattle.slots.specs.Moves.{Carried, elsewhere, moved}
 use Rattle.table.specs.Tray.{Tray, cap, list, valid, invalid, Cursor, nowhere}
-use Rattle.table.specs.Calls.{Call, Look, look, Call2}
-use Rattle.table.specs.Table.{after}
-use Rattle.table.specs.Does.{Outcome, Outcome2, does2, refused, headIn, done, does, rowOf, refusalsOf}
+use Rattle.table.specs.Calls.{Call, Look, look, Call2, clone}
+use Rattle.table.specs.Table.{after, after2}
+use Rattle.table.specs.Does.{Outcome, refused, headIn, relay, done, does, rowOf, refusalsOf, Outcome2, refused2, done2, does2, rowOf2, refusalsOf2}
 use Rattle.table.proofs.Refusals.{either}
-use Rattle.table.proofs.Done.{done-is}
+use Rattle.table.proofs.Done.{done-is, many, as-it-was}
 use Rattle.table.proofs.Looks.{look-done}
 use Rattle.table.proofs.Moves.{moves-of2}
 use Rattle.table.proofs.Valid.{fit, ring-facts, vector-facts}
@@ -94,3 +94,18 @@ look-still k q t none =
 pub looked-is : (m x k word : ℕ) (t′ t : Tray) (kind : Kind) (q : Look) → Worded m x k word
     → record { number = m; value = x; moves = k; tray = t′; cursor = nowhere } ≡ does kind (look q) t → headIn kind (t .head) ≡ t .head → heard word t ≡ does kind (look q) t
 looked-is m x k word t′ t kind q w e none = heard-is m x k word t _ w (ap (λ t. record { number = m; value = x; moves = k; tray = t; cursor = nowhere }) (sym (look-still kind q t none) ∙ sym (ap (λ o. o .tray) e)) ∙ e)
+
+-- and so does clone the container that it copies
+clone-still : (k k2 : Kind) (t t2 : Tray) → does2 k k2 clone t t2 .first ≡ t
+unfolding does2
+clone-still k k2 t t2 =
+    either (λ (o : Outcome2). o .first ≡ t) (refused2 t t2 (rowOf2 k k2 clone t t2 .given)) (refusalsOf2 k k2 clone t t2)
+    (done2 k k2 t t2 (after2 clone (list k t) (list k2 t2)) (rowOf2 k k2 clone t t2))
+    (λ r. refl)
+    (λ clear. let same : relay k t (list k t) (t .head) ≡ record { head = t .head; len = t .len; slots = t .slots } = cc (many k t, as-it-was k t (clear .0)) in same)
+
+pub cloned-is : (m x moves word : ℕ) (t′ t2′ t t2 : Tray) (k k2 : Kind) → Worded m x moves word
+    → record { number = m; value = x; moves = moves; first = t′; second = t2′; cursor = nowhere } ≡ does2 k k2 clone t t2 → heard2 word t t2′ ≡ does2 k k2 clone t t2
+cloned-is m x moves word t′ t2′ t t2 k k2 w e =
+    heard2-is m x moves word t t2′ _ w
+    (ap (λ t. record { number = m; value = x; moves = moves; first = t; second = t2′; cursor = nowhere }) (sym (clone-still k k2 t t2) ∙ sym (ap (λ o. o .first) e)) ∙ e)

@@ -33,11 +33,11 @@ pub extern "C" fn tum_ring_append(
 #[no_mangle]
 pub extern "C" fn tum_ring_clone(
     slots: &[u32],
-    state: &mut [usize; 2],
+    state: &[usize; 2],
     theirs: &mut [u32],
     other: &mut [usize; 2],
 ) -> u64
-    ensures { λ r. ⌜ heard2 r (ringOf (now (state .exit)) (now (slots .entry))) (ringOf (now (other .exit)) (now (theirs .exit))) ≡ does2 ring ring clone (ringOf (now (state .entry)) (now (slots .entry))) (ringOf (now (other .entry)) (now (theirs .entry))) ⌝ }
+    ensures { λ r. ⌜ heard2 r (ringOf (now (state .entry)) (now (slots .entry))) (ringOf (now (other .exit)) (now (theirs .exit))) ≡ does2 ring ring clone (ringOf (now (state .entry)) (now (slots .entry))) (ringOf (now (other .entry)) (now (theirs .entry))) ⌝ }
 {
     let r = Ring {
         head: state[0],
@@ -48,7 +48,6 @@ pub extern "C" fn tum_ring_clone(
         len: other[1],
     };
     let a = pairs::rings::clone(r, slots, t, theirs);
-    *state = [a.first.head, a.first.len];
     *other = [a.second.head, a.second.len];
     word(a.number, a.value, a.moves)
 }

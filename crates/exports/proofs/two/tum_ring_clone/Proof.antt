@@ -1,6 +1,6 @@
 -- `tum_ring_clone` meets its promise: what is heard of the call is what is seen of it. Assumes nothing.
 use borrow.Author.Needs.{needs}
-use Rattle.exports.proofs.Words.{fits2, heard2-is}
+use Rattle.exports.proofs.Words.{fits2, cloned-is}
 use Rattle.exports.proofs.two.tum_ring_clone.Statement.{statement}
 use Rattle.exports.proofs.two.tum_ring_clone.Tie as tie
 
@@ -15,4 +15,4 @@ tum-ring-clone-spec =
     (λ c κs. search needs)
     (λ c κs. search fits2)
     (λ c. search needs)
-    (λ c. search heard2-is))
+    (λ c. search cloned-is))

@@ -15,6 +15,9 @@ extern "C" {
     fn tum_ring_remove(slots: *mut u32, cap: usize, state: *mut State, i: usize) -> Word;
     fn tum_ring_clear(slots: *mut u32, cap: usize, state: *mut State) -> Word;
     fn tum_ring_resize(slots: *mut u32, cap: usize, state: *mut State, k: usize, x: u32) -> Word;
+    fn tum_ring_append(slots: *mut u32, cap: usize, state: *mut State, theirs: *mut u32, room: usize, other: *mut State) -> Word;
+    fn tum_ring_clone(slots: *const u32, cap: usize, state: *const State, theirs: *mut u32, room: usize, other: *mut State) -> Word;
+    fn tum_ring_step_front(slots: *const u32, cap: usize, state: *const State, cursor: *mut [usize; 2]) -> Word;
     fn tum_vector_push(slots: *mut u32, cap: usize, len: *mut usize, x: u32) -> Word;
     fn tum_vector_pop(slots: *mut u32, cap: usize, len: *mut usize) -> Word;
     fn tum_vector_read(slots: *const u32, cap: usize, len: *const usize, i: usize) -> Word;
@@ -51,11 +54,25 @@ fn entry(w: Word) -> Option<u32> {
 pub struct Ring<const C: usize, const WHICH: usize>;
 
 #[derive(Clone, Copy)]
+pub struct Rings<const C: usize>;
+
+#[derive(Clone, Copy)]
 pub struct Vector<const C: usize>;
 
 macro_rules! of_ring {
     ($call:ident $(, $arg:expr)*) => {
         unsafe { $call((&raw mut LENT[WHICH].slots).cast(), C, &raw mut STATE[WHICH] $(, $arg)*) }
+    };
+}
+
+macro_rules! of_pair {
+    ($call:ident, $first:literal, $second:literal) => {
+        unsafe {
+            $call(
+                (&raw mut LENT[$first].slots).cast(), C, &raw mut STATE[$first],
+                (&raw mut LENT[$second].slots).cast(), C, &raw mut STATE[$second],
+            )
+        }
     };
 }
 
@@ -114,6 +131,44 @@ impl<const C: usize, const WHICH: usize> work::Ring for Ring<C, WHICH> {
     #[inline(always)]
     fn resize(self, k: usize, x: u32) -> u64 {
         done(of_ring!(tum_ring_resize, k, x))
+    }
+
+    type Cursor = [usize; 2];
+
+    #[inline(always)]
+    fn begin(self) -> [usize; 2] {
+        unsafe { [0, STATE[WHICH][1]] }
+    }
+
+    #[inline(always)]
+    fn step(self, u: &mut [usize; 2]) -> Option<u32> {
+        entry(of_ring!(tum_ring_step_front, u))
+    }
+}
+
+impl<const C: usize> work::Pair for Rings<C> {
+    // The entries are in the second, and the list runs on from the last slot to slot 0.
+    fn make(n: usize) -> Self {
+        let _: Ring<C, 0> = work::wrapped(C, 0);
+        let _: Ring<C, 1> = work::wrapped(C, n);
+        Rings
+    }
+
+    #[inline(always)]
+    fn append(self) -> u64 {
+        done(of_pair!(tum_ring_append, 0, 1))
+    }
+
+    #[inline(always)]
+    fn append_back(self) -> u64 {
+        done(of_pair!(tum_ring_append, 1, 0))
+    }
+
+    // T as `new` makes it: no slot is touched.
+    #[inline(always)]
+    fn clone_to(self) -> u64 {
+        unsafe { STATE[0] = [0; 2] };
+        done(of_pair!(tum_ring_clone, 1, 0))
     }
 }
 

@@ -1,5 +1,6 @@
 // Rust's own containers at fixed places; each call goes through the crate `rust`.
 use crate::work;
+use std::collections::vec_deque::Iter;
 use std::collections::VecDeque;
 
 static mut DEQUE: [VecDeque<u32>; 2] = [VecDeque::new(), VecDeque::new()];
@@ -7,6 +8,9 @@ static mut VEC: Vec<u32> = Vec::new();
 
 #[derive(Clone, Copy)]
 pub struct Ring<const C: usize, const WHICH: usize>;
+
+#[derive(Clone, Copy)]
+pub struct Rings<const C: usize>;
 
 #[derive(Clone, Copy)]
 pub struct Vector<const C: usize>;
@@ -74,6 +78,44 @@ impl<const C: usize, const WHICH: usize> work::Ring for Ring<C, WHICH> {
     #[inline(always)]
     fn resize(self, k: usize, x: u32) -> u64 {
         rust::deque_resize(deque::<WHICH>(), k, x);
+        0
+    }
+
+    type Cursor = Iter<'static, u32>;
+
+    #[inline(always)]
+    fn begin(self) -> Iter<'static, u32> {
+        deque::<WHICH>().iter()
+    }
+
+    #[inline(always)]
+    fn step(self, u: &mut Iter<'static, u32>) -> Option<u32> {
+        rust::deque_step(u)
+    }
+}
+
+impl<const C: usize> work::Pair for Rings<C> {
+    fn make(n: usize) -> Self {
+        let _: Ring<C, 0> = work::wrapped(C, 0);
+        let _: Ring<C, 1> = work::wrapped(C, n);
+        Rings
+    }
+
+    #[inline(always)]
+    fn append(self) -> u64 {
+        rust::deque_append(deque::<0>(), deque::<1>());
+        0
+    }
+
+    #[inline(always)]
+    fn append_back(self) -> u64 {
+        rust::deque_append(deque::<1>(), deque::<0>());
+        0
+    }
+
+    #[inline(always)]
+    fn clone_to(self) -> u64 {
+        rust::deque_clone_to(deque::<1>(), deque::<0>());
         0
     }
 }

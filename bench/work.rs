@@ -55,6 +55,17 @@ pub trait Ring: Copy {
     fn remove(self, i: usize) -> Option<u32>;
     fn clear(self) -> u64;
     fn resize(self, k: usize, x: u32) -> u64;
+    type Cursor;
+    fn begin(self) -> Self::Cursor;
+    fn step(self, u: &mut Self::Cursor) -> Option<u32>;
+}
+
+// Two rings.
+pub trait Pair: Copy {
+    fn make(n: usize) -> Self;
+    fn append(self) -> u64;
+    fn append_back(self) -> u64;
+    fn clone_to(self) -> u64;
 }
 
 pub trait Vector: Copy {
@@ -81,6 +92,10 @@ pub fn wrapped<R: Ring>(cap: usize, n: usize) -> R {
         r.push_back(k as u32);
     }
     r
+}
+
+pub fn paired<P: Pair>(_cap: usize, n: usize) -> P {
+    P::make(n)
 }
 
 pub fn counted<V: Vector>(cap: usize, n: usize) -> V {
@@ -131,6 +146,36 @@ pub fn ring_refill<R: Ring>(r: R, n: usize, rounds: usize) -> Came {
     for k in 0..rounds {
         came.did(r.clear());
         came.did(r.resize(n, k as u32));
+    }
+    came
+}
+
+// Every entry by a step of its own.
+pub fn ring_walk<R: Ring>(r: R, rounds: usize) -> Came {
+    let mut came = Came::default();
+    for _ in 0..rounds {
+        let mut u = r.begin();
+        while let Some(x) = r.step(&mut u) {
+            came.sum += x as u64;
+        }
+    }
+    came
+}
+
+// All entries go over and come back.
+pub fn pair_append<P: Pair>(p: P, rounds: usize) -> Came {
+    let mut came = Came::default();
+    for _ in 0..rounds {
+        came.did(p.append());
+        came.did(p.append_back());
+    }
+    came
+}
+
+pub fn pair_clone<P: Pair>(p: P, rounds: usize) -> Came {
+    let mut came = Came::default();
+    for _ in 0..rounds {
+        came.did(p.clone_to());
     }
     came
 }

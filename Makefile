@@ -1,5 +1,5 @@
-# Two commands: `make test` is the gate, `make run` runs the program `tray` on its own input.
-.PHONY: test run
+# Two commands: `make test` is the gate, `make run` runs the program `tray` on its own input. `make bench` measures, and is no part of the gate.
+.PHONY: test run bench
 
 # First the papers and the layout, then everything is proved from nothing: tools/ci runs rt ci and lets its 'N passed, M failed'
 # through last, once every wrong body was seen refused by itself. After a failure make adds a line on stderr and exits with 2.
@@ -16,3 +16,7 @@ run:
 	@test -d crates/tray || { echo 'make run: the program tray is not written yet; it will stand in crates/tray.' >&2; exit 1; }
 	@rt check tray >&2
 	@if [ "$$(uname -m)" = x86_64 ]; then target/bin/tray <crates/tray/stdin; else cat target/log/tray.stdout; fi | python3 tools/show-run crates/tray/stdin
+
+# The proved calls against Rust's own containers, on x86-64 with rustc: prints the ratios and writes docs/PERFORMANCE.md.
+bench:
+	@bench/run

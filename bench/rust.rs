@@ -63,11 +63,6 @@ pub fn deque_step(it: &mut Iter<'_, u32>) -> Option<u32> {
 }
 
 #[inline(never)]
-pub fn deque_sum(d: &VecDeque<u32>) -> u64 {
-    d.iter().map(|&x| x as u64).sum()
-}
-
-#[inline(never)]
 pub fn vec_push(v: &mut Vec<u32>, x: u32) {
     v.push(x)
 }

@@ -98,7 +98,7 @@ pub fn paired<P: Pair>(_cap: usize, n: usize) -> P {
     P::make(n)
 }
 
-pub fn counted<V: Vector>(cap: usize, n: usize) -> V {
+pub fn counted<V: Vector>(_cap: usize, n: usize) -> V {
     let v = V::make();
     for k in 0..n {
         v.push(k as u32);

@@ -18,6 +18,7 @@ pub mod Worked
 pub mod WorkedChanges
 pub mod WorkedTwo
 pub mod WorkedMakings
+pub mod WorkedCarrying
 pub mod WorkedLedger
 pub mod WorkedKinds
 pub mod Run

@@ -1,5 +1,5 @@
--- A run of calls on two rings and two vectors, refused ones among them, played by the table: demand 3 is about something. Each outcome, the
--- lists at the end and the counts are written out. Assumes nothing.
+-- A run of calls on two rings and two vectors, refused ones among them: demand 3's theorem is not empty. Each outcome, the lists at the end and
+-- the counts are written out. Assumes nothing.
 use Prim.Native.Nat.{ℕ, _+_}
 use mathlib.Core.Path.{_≡_, refl, sym, ap}
 use mathlib.Core.Bool.{true≢false}
@@ -81,12 +81,12 @@ ours =
 lists : modelled [] (lines events) ≡ (8 ∷ 11 ∷ 8 ∷ []) ∷ [] ∷ (8 ∷ []) ∷ (11 ∷ []) ∷ []
 lists = refl
 
--- and what the slots hold is these
+-- and these are what the slots hold
 slots-hold : held (run [] events) ≡ (8 ∷ 11 ∷ 8 ∷ []) ∷ [] ∷ (8 ∷ []) ∷ (11 ∷ []) ∷ []
 slots-hold = models events ours
 
--- 8 entered six times (two by from_elem, one by insert, two by the growing resize, one copied by from_iter), not where it was refused; it was handed out
--- twice, was dropped once and stands three times.
+-- 8 entered six times: two by from_elem, one by insert, two by the growing resize and one copied by from_iter; none where it was refused. It was
+-- handed out twice, was dropped once and stands three times.
 eights :
     (entered 8 [] (lines events) ≡ 6)
     × (handed 8 [] (lines events) ≡ 2)
@@ -133,5 +133,5 @@ not-ours = (
   λ o our. true≢false (sym (our .1)),
   λ o our. our .2 refl,
   λ o our. true≢false (sym (our .3)),
-  λ our. let zero-four : _≡_ {A = ℕ} 4 0 = ap (λ (o : Outcome). o .number) (our .2) in omega arith,
+  λ our. let e : _≡_ {A = ℕ} 4 0 = ap (λ (o : Outcome). o .number) (our .2) in omega arith,
 )

@@ -1,5 +1,5 @@
 -- The trays worked by hand of paper 01, cases a to m, proved together: one table, each case computed from the definitions. Each outcome is
--- written out whole, in words of its own. Assumes nothing.
+-- written out whole, by itself, and not by a word of the definitions. Assumes nothing.
 use mathlib.Core.Path.{_≡_, refl}
 use mathlib.Core.List.{List, [], _∷_}
 use Prim.Native.Nat.{ℕ}

@@ -1,0 +1,4 @@
+-- The laws behind the promises on placed states.
+pub mod Rows
+pub mod Answered
+pub mod Desked

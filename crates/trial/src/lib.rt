@@ -1,0 +1,6 @@
+// What the program `replay` means, with no reading and no writing: a line places a state or makes a call, and all that the call leaves is told.
+pub mod rings; // rings.rt: the calls on a ring, by their numbers
+pub mod vectors; // vectors.rt: the calls on a vector
+pub mod both; // both.rt: the calls on two rings and on two vectors
+pub mod walks; // walks.rt: the calls of a cursor
+pub mod desks; // desks.rt: what stands on the desk, and what a call does to all of it

@@ -1,4 +1,4 @@
--- What a line says, from its parts: parts of a run of digits are digits, and a number that stands in no table is unknown. Assumes nothing.
+-- What a line says, from its fields: a number that stands in no table is unknown, and a value has 32 bits. Assumes nothing.
 use mathlib.Core.Path.{_≡_, refl, sym, ap, _∙_}
 use mathlib.Core.Bool.{Bool, true, false, cond, _&&_}
 use mathlib.Core.List.{List, [], _∷_}
@@ -9,24 +9,6 @@ use lib.ListN.{length, take, drop, length-take, length-drop}
 use Rattle.hex.specs.Hex.{isDigit, areDigits}
 use Rattle.call.specs.declared.lines.Said.{Said}
 use Rattle.call.specs.Lines.{under, operation, container, position, value, callSays, said}
-
-and-left : (a b : Bool) → a && b ≡ true → a ≡ true
-and-left true b e = refl
-and-left false b e = e
-
-and-right : (a b : Bool) → a && b ≡ true → b ≡ true
-and-right true b e = e
-and-right false b e = let x : b ≡ true = cc in x
-
-pub digits-take : (k : ℕ) (s : List ℕ) → areDigits s ≡ true → areDigits (take k s) ≡ true
-digits-take zero s e = refl
-digits-take (suc k) [] e = refl
-digits-take (suc k) (b ∷ s) e = rw (and-left (isDigit b) _ e) (digits-take k s (and-right (isDigit b) _ e))
-
-pub digits-drop : (k : ℕ) (s : List ℕ) → areDigits s ≡ true → areDigits (drop k s) ≡ true
-digits-drop zero s e = e
-digits-drop (suc k) [] e = refl
-digits-drop (suc k) (b ∷ s) e = digits-drop k s (and-right (isDigit b) _ e)
 
 -- a number that stands in no row, as the code has it once every row was tried: the first row innermost
 abbrev pub Apart : {A : Type 0} → (n : ℕ) → List (ℕ × A) → (before : Type 0) → Type 0
@@ -43,14 +25,7 @@ none n (row ∷ rest) f before apart =
 pub unknown : {A : Type 0} (n : ℕ) (rows : List (ℕ × A)) (f : A → Said) (before : Type 0) → Apart n rows before → Said.Unknown ≡ under n rows f
 unknown n rows f before apart = none n rows f before apart .1
 
--- a part of a line of 16 digits
-pub part-digits : (k from : ℕ) (l : List ℕ) (b : Bool) → b ≡ areDigits l → b ≡ true → areDigits (take k (drop from l)) ≡ true
-part-digits k from l b e t = digits-take k (drop from l) (digits-drop from l (sym e ∙ t))
-
-pub part-short : (k from : ℕ) (l : List ℕ) → length l ≡ 16 → length (take k (drop from l)) ≤ 16
-part-short k from l e = simp (length-take, length-drop) (omega arith)
-
--- its value has 32 bits
+-- the value of a line has 32 bits
 pub value-fits : (l : List ℕ) (x : ℕ) → length l ≡ 16 → x < 16 ^ length (take 8 (drop 8 l)) → x < 2 ^ 32
 value-fits l x e h =
     let long : length (take 8 (drop 8 l)) ≡ 8 = simp (length-take, length-drop) (omega arith) in

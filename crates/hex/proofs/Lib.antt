@@ -1,3 +1,4 @@
 -- The laws on hexadecimal text that the crates above cite.
 pub mod Puts
 pub mod Digits
+pub mod Fields

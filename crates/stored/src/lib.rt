@@ -42,13 +42,13 @@ fn put_line(text: &mut [u8], at: usize, x: u32)
     text[at + 8] = 10;
 }
 
-// A line for each slot, after the first line.
-fn put_slots(text: &mut [u8], slots: &[u32])
-    requires { ⌜ 17 + 9 * length (now slots) ≤ length (now text) ⌝ }
-    ensures { λ _. ⌜ now (text .exit) ≡ put (now (text .entry)) 17 (slotLines (now (slots .entry))) ⌝ }
+// A line for each slot, from a place on.
+pub fn put_slots(text: &mut [u8], from: usize, slots: &[u32])
+    requires { ⌜ from + 9 * length (now slots) ≤ length (now text) ⌝ }
+    ensures { λ _. ⌜ now (text .exit) ≡ put (now (text .entry)) from (slotLines (now (slots .entry))) ⌝ }
 {
     let mut i = 0;
-    let mut at = 17;
+    let mut at = from;
     while i < slots.len() {
         put_line(text, at, slots[i]);
         at += 9;
@@ -71,7 +71,7 @@ pub fn ring_text(over: Ring, slots: &[u32], text: &mut [u8]) -> ring::Answer
         return ring_answer(6, 0, over);
     }
     put_first(text, 0, cap, head, len);
-    put_slots(text, slots);
+    put_slots(text, 17, slots);
     ring_answer(0, size as u32, over)
 }
 
@@ -89,7 +89,7 @@ pub fn vector_text(over: Vector, slots: &[u32], text: &mut [u8]) -> vector::Answ
         return vector_answer(6, 0, over);
     }
     put_first(text, 1, cap, 0, len);
-    put_slots(text, slots);
+    put_slots(text, 17, slots);
     vector_answer(0, size as u32, over)
 }
 

@@ -2,3 +2,4 @@
 pub mod Rows
 pub mod Answered
 pub mod Desked
+pub mod Asked

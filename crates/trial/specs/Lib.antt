@@ -1,4 +1,5 @@
 -- What the promises on placed states cite.
+pub mod Lines
 pub mod Cases
 pub mod Scenes
 pub mod Seen

@@ -1,4 +1,5 @@
 // What stands on the desk, two containers and a cursor, and what a call does to all of it: the call's own answer, and the rest as it was.
+use crate::lines::Asked;
 use crate::walks::Walked;
 use cursors::Cursor;
 use cursors::Taken;
@@ -24,14 +25,6 @@ pub struct Did {
     pub value: u32,
     pub moves: usize,
     pub desk: Desk,
-}
-
-// What a line asks of the library: an operation and its numbers, of which x is b where that is an entry.
-pub struct Asked {
-    pub op: u64,
-    pub a: usize,
-    pub b: usize,
-    pub x: u32,
 }
 
 // A call by its number: its first digit tells on what, and a vector has no head.

@@ -1,4 +1,5 @@
 // What the program `replay` means, with no reading and no writing: a line places a state or makes a call, and all that the call leaves is told.
+pub mod lines; // lines.rt: what a line asks
 pub mod rings; // rings.rt: the calls on a ring, by their numbers
 pub mod vectors; // vectors.rt: the calls on a vector
 pub mod both; // both.rt: the calls on two rings and on two vectors

@@ -10,12 +10,12 @@ use Rattle.stored.proofs.put_slots.Statement.{statement}
 use Rattle.stored.proofs.put_slots.Tie as tie
 
 abbrev Inv-loop : tie.InvT-loop
-Inv-loop text₀ slots i₀ at₀ text i at =
-    (i ≤ length slots) × (at ≡ 17 + 9 * i) × (length text ≡ length text₀)
-    × (put text at (slotLines (drop i slots)) ≡ put text₀ 17 (slotLines slots))
+Inv-loop text₀ from slots i₀ at₀ text i at =
+    (i ≤ length slots) × (at ≡ from + 9 * i) × (length text ≡ length text₀)
+    × (put text at (slotLines (drop i slots)) ≡ put text₀ from (slotLines slots))
 
 abbrev μ-loop : tie.MeasureT-loop
-μ-loop text₀ slots i₀ at₀ text i at = length slots - i
+μ-loop text₀ from slots i₀ at₀ text i at = length slots - i
 
 pub put-slots-spec : {M : Type 1} → statement M
 put-slots-spec =

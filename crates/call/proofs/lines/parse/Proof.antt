@@ -1,6 +1,7 @@
 -- `lines::parse` meets its promise: the length and the digits are tested, then each field is read from its part. Assumes nothing.
 use borrow.Author.Needs.{needs}
-use Rattle.call.proofs.Says.{part-digits, part-short, value-fits, says-garbled, says-no-digits, says-call}
+use Rattle.hex.proofs.Fields.{field-digits, field-short}
+use Rattle.call.proofs.Says.{value-fits, says-garbled, says-no-digits, says-call}
 use Rattle.call.proofs.lines.parse.Statement.{statement}
 use Rattle.call.proofs.lines.parse.Tie as tie
 
@@ -13,19 +14,19 @@ parse-spec =
     (λ c. search needs)
     (λ c. search needs)
     (λ c. search needs)
-    (λ c κs. search (part-digits, part-short, needs))
+    (λ c κs. search (field-digits, field-short, needs))
     (λ c. search needs)
     (λ c. search needs)
     (λ c. search needs)
-    (λ c κs. search (part-digits, part-short, needs))
+    (λ c κs. search (field-digits, field-short, needs))
     (λ c. search needs)
     (λ c. search needs)
     (λ c. search needs)
-    (λ c κs. search (part-digits, part-short, needs))
+    (λ c κs. search (field-digits, field-short, needs))
     (λ c. search needs)
     (λ c. search needs)
     (λ c. search needs)
-    (λ c κs. search (part-digits, part-short, needs))
+    (λ c κs. search (field-digits, field-short, needs))
     (λ c. search (value-fits, needs))
     (λ c κs. search needs)
     (λ c. search (says-call, needs))

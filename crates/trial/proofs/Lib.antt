@@ -3,3 +3,4 @@ pub mod Rows
 pub mod Answered
 pub mod Desked
 pub mod Asked
+pub mod Laid

@@ -3,3 +3,4 @@ pub mod Lines
 pub mod Cases
 pub mod Scenes
 pub mod Seen
+pub mod Placing

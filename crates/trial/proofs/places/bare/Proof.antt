@@ -1,0 +1,32 @@
+-- `places::bare` meets its promise: what is bare, with what is left laid bare after it, is always the whole. Assumes nothing.
+use Prim.Native.Nat.{_-_, _≤_}
+use mathlib.Core.Path.{_≡_}
+use borrow.Author.Needs.{needs}
+use lib.ListN.{length, replicate, length-set}
+use Rattle.hex.specs.Put.{put}
+use Rattle.trial.specs.Placing.{bared}
+use Rattle.trial.proofs.Laid.{bare-begin, bare-turn, bare-end}
+use Rattle.trial.proofs.places.bare.Statement.{statement}
+use Rattle.trial.proofs.places.bare.Tie as tie
+
+abbrev Inv-loop : tie.InvT-loop
+Inv-loop slots₀ i₀ slots i =
+    (i ≤ length slots₀) × (length slots ≡ length slots₀) × (put slots i (replicate (length slots₀ - i) 0) ≡ bared slots₀)
+
+abbrev μ-loop : tie.MeasureT-loop
+μ-loop slots₀ i₀ slots i = length slots₀ - i
+
+pub bare-spec : {M : Type 1} → statement M
+bare-spec =
+    tie.close
+    (tie.spec
+    Inv-loop
+    μ-loop
+    (λ c. search (bare-begin, needs))
+    (λ c. search needs)
+    (λ c. search needs)
+    (λ c. search needs)
+    (λ c. search needs)
+    (λ c. search (bare-turn, needs))
+    (λ c. search needs)
+    (λ c. search (bare-end, needs)))

@@ -1,4 +1,4 @@
--- Slots that are laid bare one after another, and a slot that is laid where there is one. Assumes nothing.
+-- A run that is covered with one number, place after place, and a slot that is laid where there is one. Assumes nothing.
 use mathlib.Core.Path.{_≡_, refl, sym, ap, _∙_}
 use mathlib.Core.List.{List, [], _∷_}
 use Prim.Native.Nat.{ℕ, zero, suc, _+_, _-_, _≤_, _<_}
@@ -8,25 +8,25 @@ use lib.ListN.{length, set, replicate}
 use Rattle.hex.specs.Put.{put}
 use Rattle.trial.specs.declared.desks.Desk.{Desk}
 use Rattle.trial.specs.declared.places.Placed.{Placed}
-use Rattle.trial.specs.Placing.{Places, placed, placing, bared}
+use Rattle.trial.specs.Placing.{Places, placed, placing, covered}
 
--- what is bare, with what is left laid bare after it, is always the whole
-module _ (slots all : List ℕ) (i n : ℕ) where
-  pub bare-turn : put slots i (replicate (n - i) 0) ≡ all → i < length slots → length slots ≡ n → put (set slots i 0) (i + 1) (replicate (n - (i + 1)) 0) ≡ all
+-- what is covered, with what is left covered after it, is always the whole
+module _ (x : ℕ) (slots all : List ℕ) (i n : ℕ) where
+  pub cover-turn : put slots i (replicate (n - i) x) ≡ all → i < length slots → length slots ≡ n → put (set slots i x) (i + 1) (replicate (n - (i + 1)) x) ≡ all
   unfolding put
-  bare-turn is lt e =
+  cover-turn is lt e =
       let one : n - i ≡ suc (n - (i + 1)) = omega arith in
-      sym (ap (λ k. put slots i (replicate k 0)) one) ∙ is
+      sym (ap (λ k. put slots i (replicate k x)) one) ∙ is
 
-  pub bare-end : put slots i (replicate (n - i) 0) ≡ all → length slots ≤ i → length slots ≡ n → slots ≡ all
+  pub cover-end : put slots i (replicate (n - i) x) ≡ all → length slots ≤ i → length slots ≡ n → slots ≡ all
   unfolding put
-  bare-end is le e =
+  cover-end is le e =
       let none : n - i ≡ 0 = omega arith in
-      sym (ap (λ k. put slots i (replicate k 0)) none) ∙ is
+      sym (ap (λ k. put slots i (replicate k x)) none) ∙ is
 
-pub bare-begin : (slots : List ℕ) → put slots 0 (replicate (length slots - 0) 0) ≡ bared slots
-unfolding bared
-bare-begin slots = let same : length slots - 0 ≡ length slots = omega arith in ap (λ k. put slots 0 (replicate k 0)) same
+pub cover-begin : (x : ℕ) (slots : List ℕ) → put slots 0 (replicate (length slots - 0) x) ≡ covered x slots
+unfolding covered
+cover-begin x slots = let same : length slots - 0 ≡ length slots = omega arith in ap (λ k. put slots 0 (replicate k x)) same
 
 -- a slot that isn't there is not laid
 pub set-past : (slots : List ℕ) (i x : ℕ) → length slots ≤ i → slots ≡ set slots i x

@@ -4,3 +4,4 @@ pub mod Answered
 pub mod Desked
 pub mod Asked
 pub mod Laid
+pub mod Printed

@@ -3,6 +3,9 @@ use mathlib.Core.Path.{_≡_, refl, sym, ap, _∙_}
 use mathlib.Core.List.{List, [], _∷_}
 use Prim.Native.Nat.{ℕ}
 use borrow.Author.Tests.{ne-eqb}
+use denote.Ref.{RefT}
+use Rattle.table.specs.Parts.{Part}
+use Rattle.vector.specs.Lent.{Lent}
 use Rattle.trial.specs.Cases.{under}
 
 module _ {A : Type 0} (rows : List (ℕ × A)) (none : A) where
@@ -23,3 +26,11 @@ missed n (row ∷ rest) none before apart =
 
 pub no-row : {A : Type 0} (n : ℕ) (rows : List (ℕ × A)) (none o : A) (before : Type 0) → Apart n rows before → o ≡ none → o ≡ under n rows none
 no-row n rows none o before apart e = e ∙ missed n rows none before apart .1
+
+-- a part that was lent, likewise
+module _ (rows : List (ℕ × Part)) (none : Part) (slots r : RefT (List ℕ)) where
+  pub lent-row : (op n : ℕ) → op ≡ n → Lent (under n rows none) slots r → Lent (under op rows none) slots r
+  lent-row op n e found = rw e found
+
+  pub lent-none : (op : ℕ) (before : Type 0) → Apart op rows before → Lent none slots r → Lent (under op rows none) slots r
+  lent-none op before apart found = let is : none ≡ under op rows none = missed op rows none before apart .1 in rw (sym is) found

@@ -9,6 +9,7 @@ use Rattle.table.specs.Tray.{Tray, Cursor, nowhere}
 use Rattle.table.specs.Calls.{new, withCapacity, fromElem, look, len, isEmpty, read, reserve, tryReserve, tryReserveExact, range}
 use Rattle.table.specs.Calls.{write, push, pushFront, pop, popFront, insert, remove, swapRemove, truncate, resize, clear, extend}
 use Rattle.table.specs.Calls.{iter, intoIter, stepFront, stepBack, peekFront, peekBack, append, splitOff, clone, same, equal}
+use Rattle.table.specs.Parts.{Part, lends, lendsAll}
 use Rattle.table.specs.Does.{Outcome, Outcome2, refused, refused2, does, does2, made}
 
 -- what stands under a number in a table, or what stands for none
@@ -112,3 +113,7 @@ vectorWalk op k u t =
     ∷ (117, does vector (look (peekBack u k)) t)
     ∷ [])
     (refused t u 8)
+
+-- the parts that a vector lends: range, as_slice, as_ref, and deref for any other number
+abbrev pub partCase : (op a b : ℕ) → Tray → Part
+partCase op a b t = under op ((56, lends a b t) ∷ (57, lendsAll t) ∷ (58, lendsAll t) ∷ []) (lendsAll t)

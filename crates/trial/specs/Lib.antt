@@ -4,3 +4,4 @@ pub mod Cases
 pub mod Scenes
 pub mod Seen
 pub mod Placing
+pub mod Tells

@@ -6,3 +6,4 @@ pub mod both; // both.rt: the calls on two rings and on two vectors
 pub mod walks; // walks.rt: the calls of a cursor
 pub mod desks; // desks.rt: what stands on the desk, and what a call does to all of it
 pub mod places; // places.rt: what is placed on the desk
+pub mod tells; // tells.rt: what is printed of a call

@@ -3,7 +3,7 @@ use crate::desks::Desk;
 use crate::lines::Asked;
 ghost use mathlib.Core.Path.{_≡_};
 ghost use lib.ListN.{set};
-ghost use Rattle.trial.specs.Placing.{placed, places, bared, stating, placing};
+ghost use Rattle.trial.specs.Placing.{placed, places, covered, stating, placing};
 
 // The desk, and how many of the lent slots each container has.
 pub struct Placed {
@@ -14,7 +14,7 @@ pub struct Placed {
 
 // All of a run of slots is 0.
 fn bare(slots: &mut [u32])
-    ensures { λ _. ⌜ now (slots .exit) ≡ bared (now (slots .entry)) ⌝ }
+    ensures { λ _. ⌜ now (slots .exit) ≡ covered 0 (now (slots .entry)) ⌝ }
 {
     let mut i = 0;
     while i < slots.len() {

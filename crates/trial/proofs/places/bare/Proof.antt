@@ -1,17 +1,17 @@
--- `places::bare` meets its promise: what is bare, with what is left laid bare after it, is always the whole. Assumes nothing.
+-- `places::bare` meets its promise: what is 0, with what is left covered after it, is always the whole. Assumes nothing.
 use Prim.Native.Nat.{_-_, _≤_}
 use mathlib.Core.Path.{_≡_}
 use borrow.Author.Needs.{needs}
 use lib.ListN.{length, replicate, length-set}
 use Rattle.hex.specs.Put.{put}
-use Rattle.trial.specs.Placing.{bared}
-use Rattle.trial.proofs.Laid.{bare-begin, bare-turn, bare-end}
+use Rattle.trial.specs.Placing.{covered}
+use Rattle.trial.proofs.Laid.{cover-begin, cover-turn, cover-end}
 use Rattle.trial.proofs.places.bare.Statement.{statement}
 use Rattle.trial.proofs.places.bare.Tie as tie
 
 abbrev Inv-loop : tie.InvT-loop
 Inv-loop slots₀ i₀ slots i =
-    (i ≤ length slots₀) × (length slots ≡ length slots₀) × (put slots i (replicate (length slots₀ - i) 0) ≡ bared slots₀)
+    (i ≤ length slots₀) × (length slots ≡ length slots₀) × (put slots i (replicate (length slots₀ - i) 0) ≡ covered 0 slots₀)
 
 abbrev μ-loop : tie.MeasureT-loop
 μ-loop slots₀ i₀ slots i = length slots₀ - i
@@ -22,11 +22,11 @@ bare-spec =
     (tie.spec
     Inv-loop
     μ-loop
-    (λ c. search (bare-begin, needs))
+    (λ c. search (cover-begin, needs))
     (λ c. search needs)
     (λ c. search needs)
     (λ c. search needs)
     (λ c. search needs)
-    (λ c. search (bare-turn, needs))
+    (λ c. search (cover-turn, needs))
     (λ c. search needs)
-    (λ c. search (bare-end, needs)))
+    (λ c. search (cover-end, needs)))

@@ -1,0 +1,69 @@
+-- What is printed of a call: the answer line, and the slots in lines as the stored form has them. Assumes nothing.
+use Prim.Native.Nat.{ℕ, _+_, _*_}
+use mathlib.Core.List.{List, [], _∷_, _++_}
+use lib.ListN.{length}
+use Rattle.hex.specs.Hex.{hex, lf}
+use Rattle.hex.specs.Put.{put}
+use Rattle.table.specs.Does.{Outcome2}
+use Rattle.stored.specs.Form.{slotLines}
+use Rattle.trial.specs.declared.desks.Desk.{Desk}
+use Rattle.trial.specs.declared.tells.Told.{Told}
+use Rattle.trial.specs.Scenes.{Scene}
+use Rattle.trial.specs.Seen
+
+-- a number in n digits, and the byte that ends it
+unfoldable pub word : (n x end : ℕ) → List ℕ
+word n x end = hex n x ++ (end ∷ [])
+
+abbrev pub space : ℕ
+space = 32
+
+-- number, value, moves
+unfoldable pub answerWords : (number value moves : ℕ) → List ℕ
+answerWords number value moves = word 2 number space ++ (word 8 value space ++ word 16 moves space)
+
+-- a head and a length, or a front and a back
+unfoldable pub twoWords : (x y end : ℕ) → List ℕ
+twoWords x y end = word 16 x space ++ word 16 y end
+
+-- those of both containers and the cursor, and the line's end
+unfoldable pub deskWords : Desk → List ℕ
+deskWords d = twoWords (d .head) (d .len) space ++ (twoWords (d .head2) (d .len2) space ++ twoWords (d .front) (d .back) lf)
+
+-- the whole of it
+abbrev pub deskOf : Outcome2 → Desk
+deskOf o = record {
+  head = o .first .head;
+  len = o .first .len;
+  head2 = o .second .head;
+  len2 = o .second .len;
+  front = o .cursor .front;
+  back = o .cursor .back;
+}
+
+unfoldable pub printed : Outcome2 → List ℕ
+printed o =
+    answerWords (o .number) (o .value) (o .moves) ++ (deskWords (deskOf o) ++ (slotLines (o .first .slots) ++ slotLines (o .second .slots)))
+
+-- and how many bytes that is
+abbrev pub bytes : Outcome2 → ℕ
+bytes o = 131 + 9 * length (o .first .slots) + 9 * length (o .second .slots)
+
+-- what a call comes to: the desk with its slots, and the text with how much of it was put
+pub record Tells : Type 0 where
+  pub scene : Scene
+  pub count : ℕ
+  pub out : List ℕ
+
+abbrev pub leaves : Outcome2 → Scene
+leaves o = record { first = o .first; second = o .second; cursor = o .cursor }
+
+abbrev pub tells : Outcome2 → (out : List ℕ) → Tells
+tells o out = record { scene = leaves o; count = bytes o; out = put out 0 (printed o) }
+
+-- with lines after it
+abbrev pub tellsMore : Outcome2 → (more out : List ℕ) → Tells
+tellsMore o more out = record { scene = leaves o; count = bytes o + length more; out = put out 0 (printed o ++ more) }
+
+abbrev pub told : Told → (slots theirs out : List ℕ) → Tells
+told t slots theirs out = record { scene = Seen.scene (t .desk) slots theirs; count = t .count; out = out }

@@ -43,13 +43,13 @@ module _ (d : Desk) (r : Did) where
   -- from_iter, and the other calls of a cursor
   pub ring-taken : (t : Taken) (op k : ℕ) (s s2 s2₀ : List ℕ) → op ≡ 102 → r ≡ ofRingTaken t d
       → cursors.seenInto t (scene d s s2₀ .first) s2
-        ≡ does2 ring vector (fromIter (scene d s s2₀ .cursor)) (scene d s s2₀ .first) (flat (scene d s s2₀ .second))
+      ≡ does2 ring vector (fromIter (scene d s s2₀ .cursor)) (scene d s s2₀ .first) (flat (scene d s s2₀ .second))
       → did r s s2 ≡ ringWalks op k (scene d s s2₀)
   ring-taken t op k s s2 s2₀ e er et = rw (eq-eqb op 102 e) (ap (λ r. did r s s2) er ∙ et)
 
   pub vector-taken : (t : Taken) (op k : ℕ) (s s2 s2₀ : List ℕ) → op ≡ 118 → r ≡ ofVectorTaken t d
       → cursors.seenInto t (flat (scene d s s2₀ .first)) s2
-        ≡ does2 vector vector (fromIter (scene d s s2₀ .cursor)) (flat (scene d s s2₀ .first)) (flat (scene d s s2₀ .second))
+      ≡ does2 vector vector (fromIter (scene d s s2₀ .cursor)) (flat (scene d s s2₀ .first)) (flat (scene d s s2₀ .second))
       → did r s s2 ≡ vectorWalks op k (scene d s s2₀)
   vector-taken t op k s s2 s2₀ e er et = rw (eq-eqb op 118 e) (ap (λ r. did r s s2) er ∙ et)
 

@@ -5,3 +5,4 @@ pub mod Desked
 pub mod Asked
 pub mod Laid
 pub mod Printed
+pub mod Texted

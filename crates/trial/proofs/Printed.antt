@@ -1,20 +1,22 @@
 -- Words and lines put one after another are the whole text; and how long it is. Assumes nothing.
 use mathlib.Core.Path.{_≡_, refl, sym, ap, _∙_}
 use mathlib.Core.List.{List, [], _∷_, _++_}
-use Prim.Native.Nat.{ℕ, _+_, _*_}
+use Prim.Native.Nat.{ℕ, _+_, _*_, _≤_}
 use native.Mathlib.Omega.{arith}
-use lib.ListN.{length, set, length-append}
+use lib.ListN.{length, set, length-append, length-take, length-drop}
 use Rattle.hex.specs.Hex.{hex, lf}
 use Rattle.hex.specs.Put.{put}
-use Rattle.hex.proofs.Puts.{put-one, put-join, length-hex}
+use Rattle.hex.proofs.Puts.{put-one, put-join, length-put, length-hex}
 use Rattle.stored.specs.Form.{slotLines}
 use Rattle.stored.proofs.Lines.{length-slots}
 use Rattle.trial.specs.declared.desks.Desk.{Desk}
 use Rattle.trial.specs.declared.desks.Did.{Did}
+use Rattle.table.specs.Parts.{Part, inPart}
 use Rattle.table.specs.Does.{Outcome2}
 use Rattle.trial.specs.declared.tells.Told.{Told}
-use Rattle.trial.specs.Seen.{did}
-use Rattle.trial.specs.Tells.{word, space, twoWords, answerWords, deskWords, deskOf, printed, bytes, tells, tellsMore, told}
+use Rattle.trial.specs.Lines.{entryOf}
+use Rattle.trial.specs.Seen.{did, scene, ofPart}
+use Rattle.trial.specs.Tells.{word, space, twoWords, answerWords, deskWords, deskOf, printed, bytes, tells, tellsMore, told, shows, partIn, tellsPart}
 
 -- what is put right after a run of n bytes
 after : (text s s2 : List ℕ) (at n k : ℕ) → length s ≡ n → at + n ≡ k → put (put text at s) k s2 ≡ put text at (s ++ s2)
@@ -109,8 +111,38 @@ module _ (r : Did) (n : ℕ) (slots theirs text out : List ℕ) (o : Outcome2) w
   told-more part out2 eo et en e2 =
       let done : Outcome2 = did r slots theirs in
       let joined : out2 ≡ put text 0 (printed done ++ slotLines part) =
-          e2 ∙ ap (λ t. put t n (slotLines part)) et ∙ after text (printed done) (slotLines part) 0 (bytes done) n (length-printed done) (omega (arith, en)) in
+      e2 ∙ ap (λ t. put t n (slotLines part)) et ∙ after text (printed done) (slotLines part) 0 (bytes done) n (length-printed done) (omega (arith, en)) in
       let long : n + 9 * length part ≡ bytes done + length (slotLines part) =
-          ap (λ n. n + 9 * length part) en ∙ sym (ap (λ m. bytes done + m) (length-slots part)) in
+      ap (λ n. n + 9 * length part) en ∙ sym (ap (λ m. bytes done + m) (length-slots part)) in
       let all : told (record { desk = r .desk; count = n + 9 * length part }) slots theirs out2 ≡ tellsMore done (slotLines part) text = cc (joined, long) in
       all ∙ ap (λ o. tellsMore o (slotLines part) text) eo
+
+-- a part that was lent: it has no more entries than there are slots, and its lines come last
+pub part-fits : (p : Part) (slots part : List ℕ) → part ≡ inPart p slots → length part ≤ length slots
+part-fits p slots part e = rw e (simp (length-take, length-drop) (omega arith))
+
+pub told-part : (op a b n end : ℕ) (d : Desk) (r : Did) (slots theirs part text out out2 : List ℕ)
+    → part ≡ partIn op a b (scene d slots theirs) → r ≡ ofPart (length part) d → out ≡ put text 0 (printed (did r slots theirs)) → n ≡ bytes (did r slots theirs)
+    → out2 ≡ put out n (slotLines part) → end ≡ n + 9 * length part
+    → told (record { desk = r .desk; count = end }) slots theirs out2 ≡ tellsPart op a b (scene d slots theirs) text
+told-part op a b n end d r slots theirs part text out out2 ep er et en e2 ee =
+    ap (λ end. told (record { desk = r .desk; count = end }) slots theirs out2) ee
+    ∙ told-more r n slots theirs text out (shows (length part) (scene d slots theirs)) part out2 (ap (λ r. did r slots theirs) er) et en e2
+    ∙ ap (λ part. tellsMore (shows (length part) (scene d slots theirs)) (slotLines part) text) ep
+
+pub of-part-is : (count x : ℕ) (d : Desk) → x ≡ entryOf count
+    → _≡_ {A = Did} (record { number = 0; value = x; moves = 0; desk = record { head = 0; len = d .len; head2 = d .head2; len2 = d .len2; front = d .front; back = d .back } })
+    (ofPart count d)
+of-part-is count x d e = ap (λ x. record { number = 0; value = x; moves = 0; desk = record { head = 0; len = d .len; head2 = d .head2; len2 = d .len2; front = d .front; back = d .back } }) e
+
+pub part-room : (p : Part) (r : Did) (slots theirs part text out s : List ℕ) (n : ℕ) → part ≡ inPart p slots → n ≡ bytes (did r slots theirs)
+    → out ≡ put text 0 s → 131 + 18 * length slots + 9 * length theirs ≤ length text → n + 9 * length part ≤ length out
+part-room p r slots theirs part text out s n ep en eo h = rw (eo, length-put text 0 s) (omega (arith, part-fits p slots part ep, en))
+
+-- a part for writing
+pub lent-room : (p : Part) (slots part : List ℕ) (at k : ℕ) → part ≡ inPart p slots → at + 9 * length slots ≤ k → at + 9 * length part ≤ k
+lent-room p slots part at k ep h = omega (arith, part-fits p slots part ep)
+
+pub lent-end : (p : Part) (slots part out out2 s : List ℕ) (at n : ℕ) → n ≡ length part → part ≡ inPart p slots → at + 9 * length slots ≤ length out → out2 ≡ put out at s
+    → at + 9 * n ≤ length out2
+lent-end p slots part out out2 s at n en ep h eo = rw (eo, length-put out at s) (omega (arith, part-fits p slots part ep, en))

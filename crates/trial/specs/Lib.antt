@@ -5,3 +5,4 @@ pub mod Scenes
 pub mod Seen
 pub mod Placing
 pub mod Tells
+pub mod Texts

@@ -16,6 +16,7 @@ use Rattle.cursors.specs.Seen.{cursor, numberIn, valueIn}
 use Rattle.trial.specs.declared.walks.Walked.{Walked}
 use Rattle.trial.specs.declared.desks.Desk.{Desk}
 use Rattle.trial.specs.declared.desks.Did.{Did}
+use Rattle.trial.specs.Lines.{entryOf}
 use Rattle.trial.specs.Scenes.{Scene}
 
 abbrev pub walking : Walked → Tray → Outcome
@@ -88,3 +89,6 @@ ofVectorTaken t d = doing (t .number) 0 0 (desk 0 (d .len) 0 (t .vector .len) (t
 
 abbrev pub ofNone : Desk → Did
 ofNone d = doing 8 0 0 d
+
+abbrev pub ofPart : (count : ℕ) → Desk → Did
+ofPart count d = doing 0 (entryOf count) 0 (desk 0 (d .len) (d .head2) (d .len2) (d .front) (d .back))

@@ -4,11 +4,14 @@ use mathlib.Core.List.{List, [], _∷_, _++_}
 use lib.ListN.{length}
 use Rattle.hex.specs.Hex.{hex, lf}
 use Rattle.hex.specs.Put.{put}
+use Rattle.table.specs.Parts.{inPart}
 use Rattle.table.specs.Does.{Outcome2}
 use Rattle.stored.specs.Form.{slotLines}
 use Rattle.trial.specs.declared.desks.Desk.{Desk}
 use Rattle.trial.specs.declared.tells.Told.{Told}
-use Rattle.trial.specs.Scenes.{Scene}
+use Rattle.trial.specs.Lines.{entryOf}
+use Rattle.trial.specs.Cases.{partCase}
+use Rattle.trial.specs.Scenes.{Scene, flat}
 use Rattle.trial.specs.Seen
 
 -- a number in n digits, and the byte that ends it
@@ -67,3 +70,13 @@ tellsMore o more out = record { scene = leaves o; count = bytes o + length more;
 
 abbrev pub told : Told → (slots theirs out : List ℕ) → Tells
 told t slots theirs out = record { scene = Seen.scene (t .desk) slots theirs; count = t .count; out = out }
+
+-- a part for reading: it bears no number, its length stands as the value, and what stands in it is printed last
+abbrev pub shows : (count : ℕ) → Scene → Outcome2
+shows count d = record { number = 0; value = entryOf count; moves = 0; first = flat (d .first); second = d .second; cursor = d .cursor }
+
+abbrev pub partIn : (op a b : ℕ) → Scene → List ℕ
+partIn op a b d = inPart (partCase op a b (flat (d .first))) (d .first .slots)
+
+abbrev pub tellsPart : (op a b : ℕ) → Scene → (out : List ℕ) → Tells
+tellsPart op a b d out = tellsMore (shows (length (partIn op a b d)) d) (slotLines (partIn op a b d)) out

@@ -45,9 +45,18 @@ pub fn act(q: Asked, d: Desk, slots: &mut [u32], theirs: &mut [u32]) -> Did
     let to = Vector { len: d.len2 };
     match op / 16 {
         1 => of_ring(crate::rings::on_ring(op, a, q.x, first, slots), d),
-        2 => of_vector(crate::vectors::on_vector(op, a, q.b, q.x, over, slots, theirs), d),
-        3 => of_vector(crate::vectors::on_vector(op, a, q.b, q.x, over, slots, theirs), d),
-        4 => of_rings(crate::both::on_rings(op, a, first, slots, second, theirs), d),
+        2 => of_vector(
+            crate::vectors::on_vector(op, a, q.b, q.x, over, slots, theirs),
+            d,
+        ),
+        3 => of_vector(
+            crate::vectors::on_vector(op, a, q.b, q.x, over, slots, theirs),
+            d,
+        ),
+        4 => of_rings(
+            crate::both::on_rings(op, a, first, slots, second, theirs),
+            d,
+        ),
         5 => of_vectors(crate::both::on_vectors(op, a, over, slots, to, theirs), d),
         6 => walk_ring(op, a, d, slots, theirs),
         7 => walk_vector(op, a, d, slots, theirs),
@@ -88,7 +97,7 @@ fn walk_vector(op: u64, k: usize, d: Desk, slots: &[u32], theirs: &mut [u32]) ->
     of_vector_walk(crate::walks::over_vector(op, k, by, over, slots), d)
 }
 
-fn of_ring(a: ring::Answer, d: Desk) -> Did
+pub fn of_ring(a: ring::Answer, d: Desk) -> Did
     ensures { λ r. ⌜ r ≡ ofRing a d ⌝ }
 {
     Did {
@@ -106,7 +115,7 @@ fn of_ring(a: ring::Answer, d: Desk) -> Did
     }
 }
 
-fn of_vector(a: vector::Answer, d: Desk) -> Did
+pub fn of_vector(a: vector::Answer, d: Desk) -> Did
     ensures { λ r. ⌜ r ≡ ofVector a d ⌝ }
 {
     Did {

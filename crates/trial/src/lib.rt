@@ -7,3 +7,5 @@ pub mod walks; // walks.rt: the calls of a cursor
 pub mod desks; // desks.rt: what stands on the desk, and what a call does to all of it
 pub mod places; // places.rt: what is placed on the desk
 pub mod tells; // tells.rt: what is printed of a call
+pub mod parts; // parts.rt: the parts that a vector lends
+pub mod texts; // texts.rt: the stored form, written into a text of dashes

@@ -21,7 +21,7 @@ pub enum Verdict {
     Beyond,
 }
 
-fn entry_of(b: usize) -> u32
+pub fn entry_of(b: usize) -> u32
     ensures { λ r. ⌜ r ≡ entryOf b ⌝ }
 {
     if b < 4294967296 {

@@ -23,7 +23,7 @@ fn bare(slots: &mut [u32])
     }
 }
 
-fn lay(slots: &mut [u32], at: usize, x: u32)
+pub fn lay(slots: &mut [u32], at: usize, x: u32)
     ensures { λ _. ⌜ now (slots .exit) ≡ set (now (slots .entry)) at x ⌝ }
 {
     if at < slots.len() {

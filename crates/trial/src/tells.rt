@@ -2,14 +2,10 @@
 use crate::desks::Desk;
 use crate::desks::Did;
 use crate::lines::Asked;
-use vector::Vector;
 ghost use mathlib.Core.Path.{_≡_};
 ghost use Prim.Native.Nat.{_+_, _*_, _≤_};
 ghost use lib.ListN.{length};
 ghost use Rattle.hex.specs.Put.{put};
-ghost use Rattle.vector.specs.Seen.{tray};
-ghost use Rattle.vector.specs.Lent.{Lent};
-ghost use Rattle.trial.specs.Cases.{partCase};
 ghost use Rattle.trial.specs.Scenes.{acts};
 ghost use Rattle.trial.specs.Seen.{scene, did};
 ghost use Rattle.trial.specs.Tells.{word, twoWords, answerWords, deskWords, printed, bytes, told, tells};
@@ -57,7 +53,7 @@ fn put_desk(out: &mut [u8], d: Desk)
 }
 
 // All of it, and how many bytes that is.
-fn print(r: Did, slots: &[u32], theirs: &[u32], out: &mut [u8]) -> usize
+pub fn print(r: Did, slots: &[u32], theirs: &[u32], out: &mut [u8]) -> usize
     requires { ⌜ 131 + 9 * length (now slots) + 9 * length (now theirs) ≤ length (now out) ⌝ }
     ensures { λ n. ⌜ (now (out .exit) ≡ put (now (out .entry)) 0 (printed (did r (now (slots .entry)) (now (theirs .entry))))) × (n ≡ bytes (did r (now (slots .entry)) (now (theirs .entry)))) ⌝ }
 {
@@ -79,16 +75,4 @@ pub fn tell(q: Asked, d: Desk, slots: &mut [u32], theirs: &mut [u32], out: &mut 
     let desk = r.desk;
     let count = print(r, slots, theirs, out);
     Told { desk, count }
-}
-
-// The part that a vector lends, by the number of the call.
-fn lent(op: u64, a: usize, b: usize, over: Vector, slots: &[u32]) -> &[u32]
-    ensures { λ r. ⌜ Lent (partCase op a b (tray over (now (slots .entry)))) (slots .entry) r ⌝ }
-{
-    match op {
-        56 => over.range(slots, a, b),
-        57 => over.as_slice(slots),
-        58 => over.as_ref(slots),
-        _ => over.deref(slots),
-    }
 }

@@ -1,9 +1,9 @@
--- `tells::lent` meets its promise: each arm lends what stands under its number. Assumes nothing.
+-- `parts::lent` meets its promise: each arm lends what stands under its number. Assumes nothing.
 use borrow.Author.Needs.{needs}
 use Rattle.trial.specs.Cases.{under}
 use Rattle.trial.proofs.Rows.{lent-row, lent-none}
-use Rattle.trial.proofs.tells.lent.Statement.{statement}
-use Rattle.trial.proofs.tells.lent.Tie as tie
+use Rattle.trial.proofs.parts.lent.Statement.{statement}
+use Rattle.trial.proofs.parts.lent.Tie as tie
 
 other : tie.Need-returns-4
 other c = lent-none _ _ _ _ _ _ (c .before .match .rest) (search needs)

@@ -1,5 +1,5 @@
 -- What is printed of a call: the answer line, and the slots in lines as the stored form has them. Assumes nothing.
-use Prim.Native.Nat.{ℕ, _+_, _*_}
+use Prim.Native.Nat.{ℕ, _+_, _*_, _≤_}
 use mathlib.Core.List.{List, [], _∷_, _++_}
 use lib.ListN.{length}
 use Rattle.hex.specs.Hex.{hex, lf}
@@ -80,3 +80,7 @@ partIn op a b d = inPart (partCase op a b (flat (d .first))) (d .first .slots)
 
 abbrev pub tellsPart : (op a b : ℕ) → Scene → (out : List ℕ) → Tells
 tellsPart op a b d out = tellsMore (shows (length (partIn op a b d)) d) (slotLines (partIn op a b d)) out
+
+-- room for a desk of 4,200 slots twice, for a text, and for all that is printed: the answer line, and 9 bytes for each slot and each entry of a part
+abbrev pub Enough : (first second text out : List ℕ) → Type 0
+Enough first second text out = (4200 ≤ length first) × (4200 ≤ length second) × (40000 ≤ length text) × (113531 ≤ length out)

@@ -33,13 +33,13 @@ impl Vector {
     pub fn as_ref(self, slots: &[u32]) -> &[u32]
         ensures { λ r. ⌜ Lent (lendsAll (tray self (now (slots .entry)))) (slots .entry) r ⌝ }
     {
-        self.as_slice(slots)
+        self.as_slice(slots) // upstream's AsRef
     }
 
     pub fn deref(self, slots: &[u32]) -> &[u32]
         ensures { λ r. ⌜ Lent (lendsAll (tray self (now (slots .entry)))) (slots .entry) r ⌝ }
     {
-        self.as_slice(slots)
+        self.as_slice(slots) // upstream's Deref
     }
 
     // For writing: slots 0 to n and no more. What the slots hold once it is given back no promise can name (docs/EXCEPTIONS.md).

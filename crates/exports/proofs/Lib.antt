@@ -1,3 +1,4 @@
 -- The laws of this crate.
 pub mod Words
 pub mod Steps
+pub mod Once

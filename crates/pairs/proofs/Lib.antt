@@ -7,3 +7,4 @@ pub mod OnceRings
 pub mod OnceVectors
 pub mod UpstreamRings
 pub mod UpstreamVectors
+pub mod Same

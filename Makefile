@@ -1,5 +1,5 @@
 # Two commands: `make test` is the gate, `make run` runs the program `tray` on its own input. `make bench` measures, and is no part of the gate.
-.PHONY: test run bench
+.PHONY: test run bench compare
 
 # First the papers and the layout, then everything is proved from nothing: tools/ci runs rt ci and lets its 'N passed, M failed'
 # through last, once every wrong body was seen refused by itself. After a failure make adds a line on stderr and exits with 2.
@@ -20,3 +20,8 @@ run:
 # The proved calls against Rust's own containers, on x86-64 with rustc: prints the ratios and writes docs/PERFORMANCE.md.
 bench:
 	@bench/run
+
+# The program replay against Rust's own containers, on x86-64 with rustc: every short case, then random ones. MILLIONS=1 makes it shorter.
+MILLIONS ?= 5
+compare:
+	@MILLIONS=$(MILLIONS) oracle/run

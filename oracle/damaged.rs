@@ -1,0 +1,88 @@
+// Lines that can't be taken: too short, too long, other bytes, no operation, numbers out of reach.
+use crate::format;
+use crate::ops;
+use crate::pen::Pen;
+use crate::rng::Rng;
+
+fn is_operation(code: u8) -> bool {
+    ops::find(code).is_some() || (1..=7).contains(&code)
+}
+
+fn good(rng: &mut Rng) -> Vec<u8> {
+    let mut line = Vec::new();
+    format::line(&mut line, rng.pick(&ops::OPS.each_ref()).code, rng.next(), rng.next());
+    line
+}
+
+// Each kind of damage once, every byte at the first and the last digit, every code that is no operation, every length up to 70.
+pub fn each(pen: &mut Pen) {
+    for length in 0..=70 {
+        pen.raw(&vec![b'0'; length], true);
+    }
+    for at in [0, 1, 33] {
+        for byte in (0..=255).filter(|&byte| byte != b'\n') {
+            let mut line = vec![b'1'; 34];
+            line[at] = byte;
+            pen.raw(&line, true);
+        }
+    }
+    for code in (0..=255).filter(|&code| !is_operation(code)) {
+        pen.line(code, 0, 0);
+    }
+    pen.raw(b"12000000000000000000000000000000ab\r", true);
+    reach(pen);
+}
+
+// One above each bound, and the bound itself.
+pub fn reach(pen: &mut Pen) {
+    let entry = u32::MAX as u64;
+    for code in [0x01, 0x04] {
+        for a in [4201, 1 << 32, u64::MAX, 3] {
+            pen.line(code, a, 0);
+        }
+    }
+    for code in [0x03, 0x06] {
+        for (a, b) in [(3, 0), (2, entry + 1), (u64::MAX, 0), (0, u64::MAX), (2, entry)] {
+            pen.line(code, a, b);
+        }
+    }
+    for op in ops::OPS.iter().filter(|op| ops::has_entry(op.act)) {
+        for b in [entry + 1, entry + 2, u64::MAX, entry] {
+            pen.line(op.code, 0, b);
+        }
+    }
+    for a in [4, 1 << 32, u64::MAX, 3] {
+        pen.line(0x2f, a, 0);
+    }
+    for code in [0x80, 0x81] {
+        for a in [40_001, 1 << 32, u64::MAX, 44] {
+            pen.line(code, a, 0);
+        }
+    }
+}
+
+// Lines far longer than any that is taken.
+pub fn long(pen: &mut Pen, lengths: &[usize]) {
+    for &length in lengths {
+        pen.raw(&vec![b'1'; length], true);
+        pen.line(0x12, 0, 0);
+    }
+}
+
+// Some damage of a good line.
+pub fn some(pen: &mut Pen, rng: &mut Rng) {
+    let mut line = good(rng);
+    let at = rng.below(34) as usize;
+    match rng.below(9) {
+        0 => line.truncate(at),
+        1 => line.insert(at, b'0'),
+        2 => line[at] = rng.pick(b"ABCDEF"),
+        3 => line[at] = rng.pick(b"/:`g@G \0\r\t\x7f\xff-+x"),
+        4 => line.push(b'\r'),
+        5 => line.extend(good(rng)),
+        6 => line.extend(vec![b'a'; rng.below(300) as usize]),
+        7 => line = format!("{:02x}{:032x}", rng.below(256), rng.below(6000)).into_bytes(),
+        _ => line = b"# a line of words".to_vec(),
+    }
+    pen.raw(&line, true);
+}

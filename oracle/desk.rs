@@ -1,0 +1,255 @@
+// The desk that docs/REPLAY.md describes: two containers and a cursor, which stay from line to line. Lists come from `lists`, all else from `rules`.
+use crate::format;
+use crate::lists;
+use crate::ops::{self, Act, Act::*, Kind, Kind::*, Op};
+use crate::rules::{self, Asked, State};
+use std::collections::VecDeque;
+
+pub const MOST_SLOTS: u64 = 4200;
+pub const MOST_TEXT: u64 = 40_000;
+
+#[derive(Clone, Default, PartialEq)]
+pub struct Tray {
+    pub slots: Vec<u32>,
+    pub head: u64,
+    pub len: u64,
+}
+
+#[derive(Clone, Default, PartialEq)]
+pub struct Desk {
+    pub first: Tray,
+    pub second: Tray,
+    pub front: u64,
+    pub back: u64,
+}
+
+#[derive(Clone, Copy, PartialEq, Eq, Debug)]
+pub enum Taken {
+    Placed,
+    Refused, // the line can't be taken
+    Called(u8, u8), // operation and number
+}
+
+// What an answer has beside the desk.
+#[derive(Default)]
+struct Answer {
+    number: u8,
+    value: u32,
+    moves: u64,
+    part: Option<Vec<u32>>,
+    text: Option<Vec<u8>>,
+}
+
+impl Tray {
+    pub fn state(&self) -> State {
+        State { cap: self.slots.len() as u64, head: self.head, len: self.len }
+    }
+
+    pub fn list<L: FromIterator<u32>>(&self, kind: Kind) -> L {
+        rules::occupied(kind, self.state()).map(|k| self.slots[k]).collect()
+    }
+
+    fn place(&mut self, what: u8, a: u64, b: u64) {
+        match what {
+            1 => *self = Tray { slots: vec![0; a as usize], head: 0, len: 0 },
+            2 => (self.head, self.len) = (a, b),
+            _ => self.slots[a as usize] = b as u32,
+        }
+    }
+
+    fn lay<'a>(&mut self, kind: Kind, before: State, head: u64, list: impl ExactSizeIterator<Item = &'a u32>) {
+        (self.head, self.len) = (head, list.len() as u64);
+        let after = self.state();
+        rules::lay(kind, &mut self.slots, before, after, list);
+    }
+}
+
+impl Desk {
+    // A line without its LF; what it prints is put behind `out`.
+    pub fn take(&mut self, line: &[u8], out: &mut Vec<u8>) -> Taken {
+        match format::parse(line) {
+            Some((code, a, b)) => self.take_numbers(code, a, b, out),
+            None => refuse(out, format::NOT_DIGITS),
+        }
+    }
+
+    pub fn take_numbers(&mut self, code: u8, a: u64, b: u64, out: &mut Vec<u8>) -> Taken {
+        let op = ops::find(code);
+        if op.is_none() && !(1..=7).contains(&code) {
+            return refuse(out, format::NO_OPERATION);
+        }
+        if !self.reaches(code, a, b) {
+            return refuse(out, format::OUT_OF_REACH);
+        }
+        match (op, code) {
+            (Some(op), _) => return Taken::Called(code, self.call(op, a, b, out)),
+            (_, 1..=3) => self.first.place(code, a, b),
+            (_, 4..=6) => self.second.place(code - 3, a, b),
+            _ => (self.front, self.back) = (a, b),
+        }
+        Taken::Placed
+    }
+
+    fn reaches(&self, code: u8, a: u64, b: u64) -> bool {
+        let entry = b <= u32::MAX as u64;
+        match code {
+            0x01 | 0x04 => a <= MOST_SLOTS,
+            0x03 => a < self.first.slots.len() as u64 && entry,
+            0x06 => a < self.second.slots.len() as u64 && entry,
+            0x15..=0x17 | 0x1a | 0x1d | 0x25 | 0x26 | 0x28 | 0x2a | 0x2d | 0x3c | 0x3d => entry,
+            0x2f => a <= self.second.slots.len() as u64,
+            0x80 | 0x81 => a <= MOST_TEXT,
+            _ => true,
+        }
+    }
+
+    fn call(&mut self, op: &Op, a: u64, b: u64, out: &mut Vec<u8>) -> u8 {
+        let (act, kind) = (op.act, op.kind);
+        // A vector has no head: none is looked at, and 0 is left.
+        if kind == Vector {
+            self.first.head = 0;
+        }
+        if ops::has_second(act) && (kind == Vector || act == FromIter) {
+            self.second.head = 0;
+        }
+        let q = Asked { act, kind, a, b, first: self.first.state(), second: self.second.state(), front: self.front, back: self.back };
+        let answer = if ops::is_part(act) {
+            self.lend(&q)
+        } else {
+            let number = rules::number(&q);
+            let mut answer = if number == 0 { self.done(&q) } else { self.refused(&q) };
+            if act == Store {
+                answer.text = Some(self.text(&q, number));
+            }
+            Answer { number, ..answer }
+        };
+        self.print(&answer, out);
+        answer.number
+    }
+
+    fn done(&mut self, q: &Asked) -> Answer {
+        match q.act {
+            Iter | IntoIter => self.begin(q),
+            StepFront | StepBack | PeekFront | PeekBack | FromIter => self.walk(q),
+            Store => Answer { value: rules::text_length(q.first.cap) as u32, ..Answer::default() },
+            _ if q.kind == Ring => self.ring(q),
+            _ => self.vector(q),
+        }
+    }
+
+    // The states and the cursor given, save for a making and for a cursor's beginning.
+    fn refused(&mut self, q: &Asked) -> Answer {
+        if rules::is_making(q.act) {
+            (self.first.head, self.first.len) = (0, 0);
+        }
+        if matches!(q.act, Iter | IntoIter) {
+            (self.front, self.back) = (0, 0);
+        }
+        Answer::default()
+    }
+
+    fn ring(&mut self, q: &Asked) -> Answer {
+        let before = given(q);
+        let other = if ops::has_second(q.act) { self.second.list(Ring) } else { VecDeque::new() };
+        let mut lists: [VecDeque<u32>; 2] = [if rules::is_making(q.act) { VecDeque::new() } else { self.first.list(Ring) }, other];
+        let [list, other] = &mut lists;
+        let mut value = lists::ring(q.act, q.a as usize, q.b as u32, list, other);
+        if q.act == Same {
+            value &= rules::same_shape(q.first, q.second) as u32;
+        }
+        self.first.lay(Ring, before, rules::head_after(q), list.iter());
+        if fills_second(q.act) {
+            self.second.lay(Ring, q.second, 0, other.iter());
+        }
+        Answer { value, moves: rules::moves(&Asked { first: before, ..*q }, self.first.state()), ..Answer::default() }
+    }
+
+    fn vector(&mut self, q: &Asked) -> Answer {
+        let before = given(q);
+        let mut other: Vec<u32> = match q.act {
+            Extend => self.second.slots[..q.a as usize].to_vec(),
+            act if ops::has_second(act) => self.second.list(Vector),
+            _ => Vec::new(),
+        };
+        let mut list: Vec<u32> = if rules::is_making(q.act) { Vec::new() } else { self.first.list(Vector) };
+        let value = lists::vector(q.act, q.a as usize, q.b as u32, &mut list, &mut other);
+        self.first.lay(Vector, before, 0, list.iter());
+        if fills_second(q.act) {
+            self.second.lay(Vector, q.second, 0, other.iter());
+        }
+        Answer { value, moves: rules::moves(&Asked { first: before, ..*q }, self.first.state()), ..Answer::default() }
+    }
+
+    fn begin(&mut self, q: &Asked) -> Answer {
+        let list: Vec<u32> = self.first.list(q.kind);
+        let remaining = match (q.kind, q.act) {
+            (Ring, Iter) => VecDeque::from(list).iter().len(),
+            (Ring, _) => VecDeque::from(list).into_iter().len(),
+            (Vector, Iter) => list.iter().len(),
+            (Vector, _) => list.into_iter().len(),
+        };
+        (self.front, self.back) = (0, remaining as u64);
+        Answer::default()
+    }
+
+    fn walk(&mut self, q: &Asked) -> Answer {
+        let k = q.a as usize;
+        let walked = match q.kind {
+            Ring => lists::walk(q.act, k, q.front, q.back, self.first.list::<VecDeque<u32>>(Ring).iter()),
+            Vector => lists::walk(q.act, k, q.front, q.back, self.first.list::<Vec<u32>>(Vector).iter()),
+        };
+        (self.front, self.back) = (walked.front, walked.back);
+        if let Some(filled) = walked.filled {
+            self.second.lay(Vector, q.second, 0, filled.iter());
+        }
+        Answer { value: walked.value, ..Answer::default() }
+    }
+
+    // A part bears no number: an invalid state or a range that isn't one lends the empty part.
+    fn lend(&mut self, q: &Asked) -> Answer {
+        let asked = if q.act == Range { AskRange } else { Len };
+        let mut part = Vec::new();
+        if rules::number(&Asked { act: asked, ..*q }) == 0 {
+            let mut list: Vec<u32> = self.first.list(Vector);
+            part = lists::part(q.act, q.a as usize, q.b as usize, q.b as u32, &mut list);
+            self.first.lay(Vector, q.first, 0, list.iter());
+        }
+        Answer { value: part.len() as u32, part: Some(part), ..Answer::default() }
+    }
+
+    fn text(&self, q: &Asked, number: u8) -> Vec<u8> {
+        let mut text = vec![b'-'; q.a as usize];
+        if number == 0 {
+            rules::store(q.kind, q.first, &self.first.slots, &mut text);
+        }
+        text
+    }
+
+    fn print(&self, answer: &Answer, out: &mut Vec<u8>) {
+        let (first, second) = (&self.first, &self.second);
+        let rest = [first.head, first.len, second.head, second.len, self.front, self.back];
+        format::answer(out, answer.number, answer.value, answer.moves, rest);
+        format::entries(out, &first.slots);
+        format::entries(out, &second.slots);
+        if let Some(part) = &answer.part {
+            format::entries(out, part);
+        }
+        if let Some(text) = &answer.text {
+            format::text(out, text);
+        }
+    }
+}
+
+fn refuse(out: &mut Vec<u8>, words: &str) -> Taken {
+    out.extend_from_slice(words.as_bytes());
+    Taken::Refused
+}
+
+// The state that the carrying starts from: a making has no list before it.
+fn given(q: &Asked) -> State {
+    if rules::is_making(q.act) { State { head: 0, len: 0, ..q.first } } else { q.first }
+}
+
+fn fills_second(act: Act) -> bool {
+    matches!(act, Append | SplitOff | Clone)
+}

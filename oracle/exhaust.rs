@@ -1,0 +1,231 @@
+// The short cases, all of them: every capacity 0 to 4 with every head, length, call, position and cursor, one past each bound too; second containers up to 3.
+use crate::desk::Taken;
+use crate::ops::{self, Act, Act::*, Kind, Kind::*, Op, OPS};
+use crate::pen::Pen;
+use crate::rules::{self, State};
+
+const FIRST: u32 = 0xa0; // slot k of the first container holds FIRST + k, so that no two slots agree, free ones neither
+const SECOND: u32 = 0xb0;
+const ENTRY: u64 = 0x99;
+const UNUSED: u64 = 0xfedc_ba98_7654_3210; // in a number that isn't looked at
+const WIDE: [u64; 4] = [1 << 32, (1 << 32) + 1, 1 << 63, u64::MAX]; // a number cut to 32 bits would pass for 0 or 1
+
+// Which of the cases are written: all, or those chosen by their place in the order. What each was answered is kept.
+#[derive(Default)]
+pub struct Share {
+    seen: usize,
+    chosen: Option<Vec<bool>>,
+    pub log: Vec<Taken>,
+}
+
+impl Share {
+    pub fn all() -> Share {
+        Share::default()
+    }
+
+    pub fn of(chosen: Vec<bool>) -> Share {
+        Share { chosen: Some(chosen), ..Share::default() }
+    }
+
+    fn takes(&mut self) -> bool {
+        self.seen += 1;
+        self.chosen.as_ref().map_or(true, |chosen| chosen[self.seen - 1])
+    }
+
+    fn call(&mut self, pen: &mut Pen, code: u8, a: u64, b: u64) {
+        let taken = pen.line(code, a, b);
+        self.log.push(taken);
+    }
+}
+
+pub fn every(pen: &mut Pen, share: &mut Share) {
+    for (kind, name) in [(Ring, "ring"), (Vector, "vector")] {
+        pen.say(&format!("One {name}."));
+        alone(pen, kind, share);
+        pen.say(&format!("Two {name}s."));
+        pairs(pen, kind, share);
+        pen.say(&format!("Two {name}s that agree, or nearly."));
+        sameness(pen, kind, share);
+        pen.say(&format!("A cursor over a {name}."));
+        cursors(pen, kind, share);
+        pen.say(&format!("from_iter over a {name}."));
+        from_iter(pen, kind, share);
+        pen.say(&format!("The stored form of a {name}."));
+        stored(pen, kind, share);
+    }
+    pen.say("Parts of a vector.");
+    parts(pen, share);
+    pen.say("extend_from_slice.");
+    extend(pen, share);
+}
+
+// A head that no capacity permits and a length above each are among them.
+fn states(most: u64) -> Vec<State> {
+    let heads = |cap: u64| (0..=cap.max(1)).flat_map(move |head| (0..=cap + 1).map(move |len| State { cap, head, len }));
+    (0..=most).flat_map(heads).collect()
+}
+
+fn slots(s: State, from: u32) -> Vec<u32> {
+    (0..s.cap as u32).map(|k| from + k).collect()
+}
+
+fn set_first(pen: &mut Pen, s: State) {
+    pen.set_first(s.head, s.len, &slots(s, FIRST));
+}
+
+fn set_second(pen: &mut Pen, s: State) {
+    pen.set_second(s.head, s.len, &slots(s, SECOND));
+}
+
+fn positions(s: State) -> impl Iterator<Item = u64> {
+    (0..=s.len.max(s.cap) + 1).chain(WIDE)
+}
+
+fn op(kind: Kind, act: Act) -> &'static Op {
+    OPS.iter().find(|op| op.kind == kind && op.act == act).unwrap()
+}
+
+// The calls on one container, its cursor's beginning with them.
+fn alone(pen: &mut Pen, kind: Kind, share: &mut Share) {
+    let here = |act: Act| !ops::has_second(act) && !ops::is_part(act) && !matches!(act, StepFront | StepBack | PeekFront | PeekBack | Extend | Store);
+    for s in states(4) {
+        for op in OPS.iter().filter(|op| op.kind == kind && here(op.act)) {
+            let at: Vec<u64> = if ops::has_position(op.act) { positions(s).collect() } else { vec![UNUSED] };
+            for &a in &at {
+                let b: &[u64] = match op.act {
+                    AskRange => &at,
+                    act if ops::has_entry(act) => &[ENTRY],
+                    _ => &[UNUSED],
+                };
+                for &b in b {
+                    if share.takes() {
+                        set_first(pen, s);
+                        share.call(pen, op.code, a, b);
+                    }
+                }
+            }
+        }
+    }
+}
+
+fn parts(pen: &mut Pen, share: &mut Share) {
+    for s in states(4) {
+        for op in OPS.iter().filter(|op| ops::is_part(op.act)) {
+            let at: Vec<u64> = if ops::has_position(op.act) { positions(s).collect() } else { vec![UNUSED] };
+            for &a in &at {
+                for &b in if op.act == Range { &at[..] } else { &[ENTRY] } {
+                    if share.takes() {
+                        set_first(pen, s);
+                        share.call(pen, op.code, a, b);
+                    }
+                }
+            }
+        }
+    }
+}
+
+fn pairs(pen: &mut Pen, kind: Kind, share: &mut Share) {
+    for s in states(4) {
+        for t in states(3) {
+            for act in [Append, SplitOff, Clone, Same] {
+                for a in if act == SplitOff { positions(s).collect() } else { vec![UNUSED] } {
+                    if share.takes() {
+                        set_first(pen, s);
+                        set_second(pen, t);
+                        share.call(pen, op(kind, act).code, a, UNUSED);
+                    }
+                }
+            }
+        }
+    }
+}
+
+// Sameness of containers that agree: slot by slot or entry by entry, and then with one slot of the second changed.
+fn sameness(pen: &mut Pen, kind: Kind, share: &mut Share) {
+    for s in states(4) {
+        for t in states(4).into_iter().filter(|t| t.len == s.len) {
+            for by_entry in [false, true] {
+                for changed in 0..=t.cap {
+                    if share.takes() {
+                        set_first(pen, s);
+                        let mut like = slots(t, FIRST);
+                        if by_entry && rules::valid(kind, s) && rules::valid(kind, t) {
+                            for j in 0..t.len {
+                                like[rules::slot(kind, t, j)] = FIRST + rules::slot(kind, s, j) as u32;
+                            }
+                        }
+                        if let Some(slot) = like.get_mut(changed as usize) {
+                            *slot += 0x10;
+                        }
+                        pen.set_second(t.head, t.len, &like);
+                        share.call(pen, op(kind, Same).code, UNUSED, UNUSED);
+                    }
+                }
+            }
+        }
+    }
+}
+
+fn ends(s: State) -> Vec<(u64, u64)> {
+    let end = |n: u64| (0..=n + 1).chain([(1 << 32) + 1, u64::MAX]);
+    end(s.len).flat_map(|front| end(s.len).map(move |back| (front, back))).collect()
+}
+
+fn cursors(pen: &mut Pen, kind: Kind, share: &mut Share) {
+    for s in states(4) {
+        for (front, back) in ends(s) {
+            for act in [StepFront, StepBack, PeekFront, PeekBack] {
+                for a in if ops::has_position(act) { positions(s).collect() } else { vec![UNUSED] } {
+                    if share.takes() {
+                        set_first(pen, s);
+                        pen.set_cursor(front, back);
+                        share.call(pen, op(kind, act).code, a, UNUSED);
+                    }
+                }
+            }
+        }
+    }
+}
+
+fn from_iter(pen: &mut Pen, kind: Kind, share: &mut Share) {
+    for s in states(4) {
+        for (front, back) in ends(s) {
+            // T is a vector: one head that a ring couldn't have is enough to see that none is looked at.
+            for t in states(3).into_iter().filter(|t| t.head == 0 || t.head == t.cap) {
+                if share.takes() {
+                    set_first(pen, s);
+                    set_second(pen, t);
+                    pen.set_cursor(front, back);
+                    share.call(pen, op(kind, FromIter).code, UNUSED, UNUSED);
+                }
+            }
+        }
+    }
+}
+
+fn stored(pen: &mut Pen, kind: Kind, share: &mut Share) {
+    for s in states(4) {
+        let need = rules::text_length(s.cap);
+        for a in [0, 1, 16, 17, need - 2, need - 1, need, need + 1, need + 2, 40_001, u64::MAX] {
+            if share.takes() {
+                set_first(pen, s);
+                share.call(pen, op(kind, Store).code, a, UNUSED);
+            }
+        }
+    }
+}
+
+// The numbers that are added stand in the second container, whatever its head and length.
+fn extend(pen: &mut Pen, share: &mut Share) {
+    for s in states(4) {
+        for t in (0..=6).map(|cap| State { cap, head: cap + 1, len: cap / 2 }) {
+            for a in (0..=t.cap + 1).chain(WIDE) {
+                if share.takes() {
+                    set_first(pen, s);
+                    set_second(pen, t);
+                    share.call(pen, op(Vector, Extend).code, a, UNUSED);
+                }
+            }
+        }
+    }
+}

@@ -1,0 +1,76 @@
+// Cases at the capacities where something changes: a byte's end, a power of two, the most that is permitted and above it.
+use crate::ops::{self, Act::*, Op, OPS};
+use crate::pen::Pen;
+use crate::rng::Rng;
+use crate::rules;
+
+// Every call on each of these, from heads and lengths at the bounds.
+pub fn every(pen: &mut Pen) {
+    let mut rng = Rng::new(0x1a46e);
+    for cap in [15, 16, 17, 255, 256, 257, 4095, 4096, 4097, 4200] {
+        let slots: Vec<u32> = (0..cap as u32).map(|k| 0x5000_0000 + k).collect();
+        for op in &OPS {
+            for _ in 0..if cap < 300 { 40 } else { 3 } {
+                one(pen, &mut rng, op, &slots);
+            }
+        }
+    }
+}
+
+fn one(pen: &mut Pen, rng: &mut Rng, op: &Op, slots: &[u32]) {
+    let cap = slots.len() as u64;
+    let len = rng.pick(&[0, 1, 2, 7, cap / 2, cap / 2 + 1, cap - 1, cap, cap, cap + 1]);
+    let at = [0, 1, 5, len / 2, (len / 2).saturating_sub(1), len.saturating_sub(1), len, len + 1, cap - 1, cap, cap + 1, cap.saturating_sub(len), cap.saturating_sub(len) + 1];
+    let a = match op.act {
+        Store => rules::text_length(cap) - 1 + rng.below(3),
+        _ => rng.pick(&at),
+    };
+    let b = if ops::has_entry(op.act) { rng.next() >> 32 } else { rng.pick(&at) };
+    pen.set_first(rng.pick(&[0, 1, cap / 2, cap - 3, cap - 2, cap - 1]), len, slots);
+    if ops::has_second(op.act) || op.act == Extend {
+        let room = rng.pick(&[cap, cap, len.min(cap), 3]);
+        let filled = if op.act == Append { (cap.saturating_sub(len) + rng.below(2)).min(room) } else { rng.below(8) / 7 };
+        pen.set_second(rng.pick(&[0, room / 2, room.saturating_sub(1)]), filled, &slots[..room as usize]);
+    } else {
+        pen.set_second(1, 1, &[4, 5, 6]);
+    }
+    let (front, back) = (rng.pick(&at), rng.pick(&at));
+    pen.set_cursor(front.min(back), front.max(back).min(len + rng.below(9) / 8));
+    pen.line(op.code, a, b);
+}
+
+// The few large calls of the fixed list: only slots near the ends are placed, since each call prints all of them.
+pub fn few(pen: &mut Pen) {
+    wrapped(pen, 256, 250, 200);
+    for (code, a, b) in [(0x1a, 3, 1), (0x1a, 199, 2), (0x1b, 2, 0), (0x1b, 198, 0), (0x16, 0, 3), (0x17, 0, 4), (0x18, 0, 0), (0x19, 0, 0), (0x1d, 256, 5), (0x16, 0, 6), (0x1c, 9, 0)] {
+        pen.line(code, a, b);
+    }
+    wrapped(pen, 257, 254, 20);
+    for (code, a, b) in [(0x80, 2330, 0), (0x80, 2329, 0), (0x29, 0, 0), (0x2a, 256, 1), (0x2a, 10, 9), (0x2d, 257, 8), (0x26, 0, 1), (0x33, 3, 257), (0x33, 3, 258)] {
+        pen.line(code, a, b);
+    }
+    wrapped(pen, 4096, 4090, 4095);
+    for (code, a, b) in [(0x1a, 2047, 1), (0x1b, 2048, 0), (0x1b, 2046, 0), (0x17, 0, 2), (0x19, 0, 0), (0x80, 36_881, 0), (0x80, 36_880, 0), (0x14, 3, 0), (0x1d, 4097, 0), (0x62, 0, 0)] {
+        pen.line(code, a, b);
+    }
+    // Above 4,096 slots every state is invalid, and a making is refused.
+    wrapped(pen, 4097, 1, 2);
+    for (code, a, b) in [(0x16, 0, 1), (0x10, 0, 0), (0x11, 1, 0), (0x20, 0, 0), (0x21, 1, 0), (0x28, 1, 1)] {
+        pen.line(code, a, b);
+    }
+    wrapped(pen, 4200, 4199, 3);
+    for (code, a, b) in [(0x12, 0, 0), (0x39, 0, 0)] {
+        pen.line(code, a, b);
+    }
+    pen.line(1, 0, 0);
+}
+
+fn wrapped(pen: &mut Pen, cap: u64, head: u64, len: u64) {
+    pen.line(1, cap, 0);
+    pen.line(2, head, len);
+    for k in (0..12).chain(cap / 2 - 3..cap / 2 + 3).chain(cap - 12..cap) {
+        pen.line(3, k, 0x7000 + k);
+    }
+    pen.line(4, 1, 0);
+    pen.line(7, 1, len);
+}

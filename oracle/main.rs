@@ -1,0 +1,60 @@
+// The Rust side of the comparison: makes cases of `replay`, answers them with VecDeque, Vec and paper 01's rules, and compares.
+mod compare;
+mod damaged;
+mod desk;
+mod exhaust;
+mod fixed;
+mod format;
+mod large;
+mod lists;
+mod ops;
+mod pen;
+mod random;
+mod rng;
+mod rules;
+mod selfcheck;
+mod tally;
+
+use std::io::{BufRead, Write};
+use std::process::exit;
+
+const USAGE: &str = "oracle selfcheck             paper 01's trays and a few more, against results written by hand
+oracle fixed DIR             writes the fixed list: DIR/stdin and what it must print, DIR/stdout
+oracle compare REPLAY [M]    compares the program REPLAY on all short cases and on random ones, M million calls in all (5)
+oracle answer                prints what the lines of the input must print";
+
+fn main() {
+    let args: Vec<String> = std::env::args().skip(1).collect();
+    let args: Vec<&str> = args.iter().map(String::as_str).collect();
+    let done = match args[..] {
+        ["selfcheck"] => selfcheck::run(),
+        ["fixed", dir] => fixed::run(dir),
+        ["compare", replay] => compare::run(replay, 5.0),
+        ["compare", replay, millions] => match millions.parse() {
+            Ok(millions) => compare::run(replay, millions),
+            Err(_) => Err(format!("{millions} is no number of millions")),
+        },
+        ["answer"] => answer(),
+        _ => Err(USAGE.to_string()),
+    };
+    if let Err(words) = done {
+        eprintln!("{words}");
+        exit(1);
+    }
+}
+
+fn answer() -> Result<(), String> {
+    let (mut desk, mut out) = (desk::Desk::default(), Vec::new());
+    let (mut input, mut output) = (std::io::stdin().lock(), std::io::stdout().lock());
+    loop {
+        let mut line = Vec::new();
+        if input.read_until(b'\n', &mut line).map_err(|e| e.to_string())? == 0 {
+            return output.write_all(&out).map_err(|e| e.to_string());
+        }
+        desk.take(line.strip_suffix(b"\n").unwrap_or(&line), &mut out);
+        if out.len() > 1 << 16 {
+            output.write_all(&out).map_err(|e| e.to_string())?;
+            out.clear();
+        }
+    }
+}

@@ -1,0 +1,201 @@
+// Longer random cases: a desk is placed, then calls follow one another on it, with arguments near every bound and damaged lines in between.
+use crate::damaged;
+use crate::desk::{Tray, MOST_SLOTS};
+use crate::ops::{self, Act::*, Kind, Kind::*, Op, OPS};
+use crate::pen::Pen;
+use crate::rng::Rng;
+use crate::rules;
+
+const WIDE: [u64; 8] = [u32::MAX as u64, 1 << 32, (1 << 32) + 1, (1 << 63) - 1, 1 << 63, (1 << 63) + 1, u64::MAX - 1, u64::MAX];
+
+pub struct Random {
+    rng: Rng,
+    most: u64, // no container is placed with more slots
+}
+
+impl Random {
+    pub fn new(seed: u64, most: u64) -> Random {
+        Random { rng: Rng::new(seed), most }
+    }
+
+    // One desk and the calls on it.
+    pub fn case(&mut self, pen: &mut Pen) {
+        let large = self.rng.one_in(1000) && self.most == MOST_SLOTS;
+        self.place_first(pen, large);
+        self.place_second(pen, large);
+        self.place_cursor(pen);
+        let kinds: &[Kind] = match self.rng.below(20) {
+            0..=8 => &[Ring],
+            9..=16 => &[Vector],
+            _ => &[Ring, Vector],
+        };
+        let most = if self.rng.one_in(10) { 90 } else { 24 };
+        let calls = 1 + self.rng.below(most);
+        for _ in 0..calls {
+            self.between(pen);
+            self.call(pen, kinds);
+        }
+    }
+
+    fn capacity(&mut self, large: bool) -> u64 {
+        let rng = &mut self.rng;
+        let cap = match rng.below(1000) {
+            _ if large => rng.pick(&[4095, 4096, 4096, 4096, 4097, 4200, 1024, 2500]),
+            0..=8 => 255 + rng.below(3),
+            9..=40 => 18 + rng.below(50),
+            41..=300 => 9 + rng.below(9),
+            _ => rng.below(9),
+        };
+        cap.min(self.most)
+    }
+
+    fn length(&mut self, cap: u64) -> u64 {
+        let rng = &mut self.rng;
+        match rng.below(40) {
+            0 => cap + 1,
+            1 => rng.pick(&WIDE),
+            2..=7 => cap,
+            8..=9 => cap.saturating_sub(1),
+            10..=13 => 0,
+            _ => rng.below(cap + 1),
+        }
+    }
+
+    fn head(&mut self, cap: u64) -> u64 {
+        let rng = &mut self.rng;
+        match rng.below(40) {
+            0 => cap,
+            1 => rng.pick(&WIDE),
+            2..=11 => cap.saturating_sub(1),
+            12..=15 => 0,
+            _ => rng.below(cap.max(1)),
+        }
+    }
+
+    fn entry(&mut self) -> u64 {
+        let rng = &mut self.rng;
+        match rng.below(60) {
+            0 => 0,
+            1..=3 => u32::MAX as u64,
+            4 => 1 << 31,
+            5 => if rng.one_in(3) { rng.pick(&[1 << 32, u64::MAX]) } else { 1 },
+            6..=25 => rng.below(8),
+            _ => rng.next() >> 32,
+        }
+    }
+
+    fn place_first(&mut self, pen: &mut Pen, large: bool) {
+        let cap = self.capacity(large);
+        pen.line(1, cap, self.rng.next());
+        pen.line(2, self.head(cap), self.length(cap));
+        for k in 0..cap {
+            pen.line(3, k, self.rng.next() >> 32);
+        }
+    }
+
+    fn place_second(&mut self, pen: &mut Pen, large: bool) {
+        let large = large && self.rng.one_in(2);
+        let cap = self.capacity(large);
+        pen.line(4, cap, self.rng.next());
+        pen.line(5, self.head(cap), if self.rng.one_in(2) { 0 } else { self.length(cap) });
+        for k in 0..cap {
+            pen.line(6, k, self.rng.next() >> 32);
+        }
+        if self.rng.one_in(8) {
+            self.copy_first(pen);
+        }
+    }
+
+    // The second becomes what the first is, now and then with one slot changed: else two containers would hardly ever agree.
+    fn copy_first(&mut self, pen: &mut Pen) {
+        let Tray { mut slots, head, len } = pen.desk.first.clone();
+        if slots.len() < 300 {
+            if !slots.is_empty() && self.rng.one_in(3) {
+                let k = self.rng.below(slots.len() as u64) as usize;
+                slots[k] ^= 1 << self.rng.below(32);
+            }
+            pen.set_second(head, len, &slots);
+        }
+    }
+
+    fn place_cursor(&mut self, pen: &mut Pen) {
+        let n = pen.desk.first.len;
+        let (one, two) = (self.position(pen), self.position(pen));
+        let (front, back) = if self.rng.one_in(6) { (one, two) } else { (one.min(two).min(n), one.max(two).min(n)) };
+        pen.line(7, front, back);
+    }
+
+    // What may stand between two calls.
+    fn between(&mut self, pen: &mut Pen) {
+        match self.rng.below(60) {
+            0 => damaged::some(pen, &mut self.rng),
+            1..=3 => self.place_cursor(pen),
+            4..=5 => {
+                let cap = pen.desk.first.slots.len() as u64;
+                let (head, len) = (self.head(cap), self.length(cap));
+                pen.line(2, head, len);
+            }
+            6..=9 => {
+                let cap = pen.desk.second.slots.len() as u64;
+                let (head, len) = (self.head(cap), if self.rng.one_in(3) { self.length(cap) } else { 0 });
+                pen.line(5, head, len);
+            }
+            10 => {
+                let (code, k, x) = (self.rng.pick(&[3, 6]), self.position(pen), self.entry());
+                pen.line(code, k, x);
+            }
+            11 => self.copy_first(pen),
+            _ => {}
+        }
+    }
+
+    // Near a bound of the first container, or anywhere within it.
+    fn position(&mut self, pen: &Pen) -> u64 {
+        let rng = &mut self.rng;
+        let (n, c) = (pen.desk.first.len, pen.desk.first.slots.len() as u64);
+        let free = c.wrapping_sub(n);
+        match rng.below(40) {
+            0 => rng.pick(&WIDE),
+            1 => rng.pick(&[n.wrapping_neg(), c.wrapping_neg(), free.wrapping_add(1 << 32), (1 << 32) + c, u64::MAX - n]),
+            2..=12 => rng.pick(&[0, 1, n / 2, n / 2 + 1, n.wrapping_sub(1), n, n.wrapping_add(1), free, free.wrapping_add(1), free.wrapping_sub(1), c, c + 1, c.wrapping_sub(1)]),
+            _ => rng.below(n.min(c) + 1),
+        }
+    }
+
+    // Makings and clearings come seldom, so that a sequence gets somewhere.
+    fn operation(&mut self, kinds: &[Kind]) -> &'static Op {
+        loop {
+            let op = &OPS[self.rng.below(OPS.len() as u64) as usize];
+            let seldom = rules::is_making(op.act) || matches!(op.act, Clear | Store);
+            if kinds.contains(&op.kind) && (!seldom || self.rng.one_in(6)) {
+                return op;
+            }
+        }
+    }
+
+    fn call(&mut self, pen: &mut Pen, kinds: &[Kind]) {
+        let op = self.operation(kinds);
+        let a = match op.act {
+            Store => self.text(pen),
+            Extend => self.rng.below(pen.desk.second.slots.len() as u64 + 1) + self.rng.one_in(50) as u64,
+            Range | AskRange => self.position(pen),
+            act if ops::has_position(act) => self.position(pen),
+            _ => self.rng.next(),
+        };
+        let b = match op.act {
+            Range | AskRange => self.position(pen),
+            act if ops::has_entry(act) => self.entry(),
+            _ => self.rng.next(),
+        };
+        pen.line(op.code, a, b);
+    }
+
+    fn text(&mut self, pen: &Pen) -> u64 {
+        let need = rules::text_length(pen.desk.first.slots.len() as u64);
+        match self.rng.below(200) {
+            0 => self.rng.pick(&[0, 1, 16, 40_000, 40_001, 1 << 32, u64::MAX]),
+            1..=60 => need - 1 - self.rng.below(10),
+            _ => need + self.rng.below(10),
+        }
+    }
+}

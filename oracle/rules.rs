@@ -1,0 +1,171 @@
+// Paper 01's rules of layout and refusal, written from the paper: validity, slots, heads, numbers, carrying, moves, stored form. No list is made here.
+use crate::ops::{Act, Act::*, Kind, Kind::*};
+
+const MOST: u64 = 4096;
+
+#[derive(Clone, Copy, PartialEq, Eq, Debug)]
+pub struct State {
+    pub cap: u64,
+    pub head: u64,
+    pub len: u64,
+}
+
+// A call with everything that its number may depend on.
+pub struct Asked {
+    pub act: Act,
+    pub kind: Kind,
+    pub a: u64,
+    pub b: u64,
+    pub first: State,
+    pub second: State,
+    pub front: u64,
+    pub back: u64,
+}
+
+pub fn valid(kind: Kind, s: State) -> bool {
+    s.cap <= MOST && s.len <= s.cap && (kind == Vector || s.head < s.cap || (s.cap == 0 && s.head == 0))
+}
+
+// The slot of position j; asked of valid states only.
+pub fn slot(kind: Kind, s: State, j: u64) -> usize {
+    match kind {
+        Ring => ((s.head + j) % s.cap) as usize,
+        Vector => j as usize,
+    }
+}
+
+pub fn is_making(act: Act) -> bool {
+    matches!(act, New | WithCapacity | FromElem)
+}
+
+// The first number that applies, from the lowest up; 0 where none does. A higher one is only tried once the lower ones don't apply, so states are valid by then.
+pub fn number(q: &Asked) -> u8 {
+    let applies = [one, two, three, four, five, six];
+    applies.iter().position(|test| test(q)).map_or(0, |k| k as u8 + 1)
+}
+
+fn one(q: &Asked) -> bool {
+    // A making is given slots and no state.
+    if is_making(q.act) { q.first.cap > MOST } else { !valid(q.kind, q.first) }
+}
+
+fn two(q: &Asked) -> bool {
+    match q.act {
+        Append | SplitOff | Clone | Same => !valid(q.kind, q.second),
+        FromIter => !valid(Vector, q.second),
+        _ => false,
+    }
+}
+
+fn three(q: &Asked) -> bool {
+    let n = q.first.len;
+    let cursor_off = !(q.front <= q.back && q.back <= n);
+    match q.act {
+        Read | Write | Remove | SwapRemove => q.a >= n,
+        Insert | SplitOff => q.a > n,
+        AskRange => !(q.a <= q.b && q.b <= n),
+        StepFront | StepBack | FromIter => cursor_off,
+        PeekFront | PeekBack => cursor_off || q.a >= q.back - q.front,
+        _ => false,
+    }
+}
+
+fn four(q: &Asked) -> bool {
+    match q.act {
+        PopBack | PopFront => q.first.len == 0,
+        StepFront | StepBack => q.front == q.back,
+        _ => false,
+    }
+}
+
+fn five(q: &Asked) -> bool {
+    matches!(q.act, SplitOff | Clone | FromIter) && q.second.len != 0
+}
+
+fn six(q: &Asked) -> bool {
+    let free = |s: State| s.cap - s.len;
+    match q.act {
+        PushBack | PushFront | Insert => free(q.first) < 1,
+        Reserve | TryReserve | TryReserveExact | Extend => free(q.first) < q.a,
+        Append => free(q.first) < q.second.len,
+        SplitOff => free(q.second) < q.first.len - q.a,
+        Clone => free(q.second) < q.first.len,
+        FromIter => free(q.second) < q.back - q.front,
+        WithCapacity | FromElem | Resize => q.a > q.first.cap,
+        Store => q.a < text_length(q.first.cap),
+        _ => false,
+    }
+}
+
+// The first container's head after a call that is done.
+pub fn head_after(q: &Asked) -> u64 {
+    let State { cap, head, len } = q.first;
+    if q.kind == Vector {
+        return 0;
+    }
+    let back = || (head + cap - 1) % cap;
+    let on = || (head + 1) % cap;
+    match q.act {
+        PushFront => back(),
+        PopFront => on(),
+        Insert if q.a < len - q.a => back(),
+        Remove if q.a < len - 1 - q.a => on(),
+        New | WithCapacity | Clear => 0,
+        _ => head,
+    }
+}
+
+// Where position j of the first container is carried; None where its entry leaves the list.
+fn carried(q: &Asked, len_after: u64, j: u64) -> Option<u64> {
+    let last = q.first.len - 1;
+    let inserted = |i: u64| Some(if j < i { j } else { j + 1 });
+    let removed = |i: u64| if j == i { None } else { Some(if j < i { j } else { j - 1 }) };
+    match q.act {
+        Insert => inserted(q.a),
+        PushFront => inserted(0),
+        Remove => removed(q.a),
+        PopFront => removed(0),
+        SwapRemove if j == q.a => None,
+        SwapRemove if j == last => Some(q.a),
+        _ => (j < len_after).then_some(j),
+    }
+}
+
+// Counted entry by entry: those that remain and stand in another slot than before.
+pub fn moves(q: &Asked, after: State) -> u64 {
+    let moved = |j: u64| carried(q, after.len, j).is_some_and(|k| slot(q.kind, q.first, j) != slot(q.kind, after, k));
+    (0..q.first.len).filter(|&j| moved(j)).count() as u64
+}
+
+pub fn occupied(kind: Kind, s: State) -> impl Iterator<Item = usize> {
+    (0..s.len).map(move |j| slot(kind, s, j))
+}
+
+// The list stands in its slots, a slot that was occupied and no longer is holds 0, and every other is left alone.
+pub fn lay<'a>(kind: Kind, slots: &mut [u32], before: State, after: State, list: impl Iterator<Item = &'a u32>) {
+    for k in occupied(kind, before) {
+        slots[k] = 0;
+    }
+    for (k, x) in occupied(kind, after).zip(list) {
+        slots[k] = *x;
+    }
+}
+
+// Ring sameness asks for these beside the entries.
+pub fn same_shape(s: State, t: State) -> bool {
+    s == t
+}
+
+pub fn text_length(cap: u64) -> u64 {
+    17 + 9 * cap
+}
+
+// The stored form, into the beginning of a text that is long enough.
+pub fn store(kind: Kind, s: State, slots: &[u32], text: &mut [u8]) {
+    let (byte, head) = if kind == Ring { (0, s.head) } else { (1, 0) };
+    let mut form = format!("{byte:02x}00{:04x}{head:04x}{:04x}\n", s.cap, s.len);
+    for x in slots {
+        form.push_str(&format!("{x:08x}\n"));
+    }
+    text[..form.len()].copy_from_slice(form.as_bytes());
+}

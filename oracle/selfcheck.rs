@@ -1,0 +1,156 @@
+// Checks the desk's answers against results written by hand: paper 01's cases a to m and its listing, and answers to the byte for what those leave out.
+use crate::desk::{Desk, Taken};
+use crate::pen::Pen;
+
+struct Case {
+    name: &'static str,
+    from: (u64, u64, &'static [u32]), // head, length, slots
+    call: (u8, u64, u64),
+    answer: (u8, u32, u64), // number, value, moves
+    to: (u64, u64, &'static [u32]),
+}
+
+type Tray = (u64, u64, &'static [u32]);
+const W: Tray = (2, 3, &[11, 0, 9, 10]);
+const U: Tray = (0, 3, &[1, 2, 3, 9]);
+const NONE: Tray = (0, 0, &[]);
+const FULL: Tray = (0, 1, &[6]);
+const OFF: Tray = (4, 0, &[0, 0, 0, 0]);
+
+const fn case(name: &'static str, from: Tray, call: (u8, u64, u64), answer: (u8, u32, u64), to: Tray) -> Case {
+    Case { name, from, call, answer, to }
+}
+
+const PAPER: [Case; 19] = [
+    case("a", W, (0x1a, 1, 8), (0, 0, 1), (1, 4, &[11, 9, 8, 10])),
+    case("b", W, (0x1a, 2, 8), (0, 0, 1), (2, 4, &[8, 11, 9, 10])),
+    case("c", W, (0x1b, 0, 0), (0, 9, 0), (3, 2, &[11, 0, 0, 10])),
+    case("d", W, (0x1b, 1, 0), (0, 10, 1), (2, 2, &[0, 0, 9, 11])),
+    case("e, remove", W, (0x1b, 3, 0), (3, 0, 0), W),
+    case("e, insert", W, (0x1a, 4, 1), (3, 0, 0), W),
+    case("f", FULL, (0x16, 0, 1), (6, 0, 0), FULL),
+    case("g, push of a ring", NONE, (0x16, 0, 1), (6, 0, 0), NONE),
+    case("g, pop of a ring", NONE, (0x18, 0, 0), (4, 0, 0), NONE),
+    case("g, push of a vector", NONE, (0x26, 0, 1), (6, 0, 0), NONE),
+    case("g, pop of a vector", NONE, (0x27, 0, 0), (4, 0, 0), NONE),
+    case("h", (0, 0, &[3]), (0x17, 0, 4), (0, 0, 0), (0, 1, &[4])),
+    case("i", OFF, (0x16, 0, 1), (1, 0, 0), OFF),
+    case("j", (1, 1, &[3, 6]), (0x19, 0, 0), (0, 6, 0), (0, 0, &[3, 0])),
+    case("k, first", U, (0x29, 0, 0), (0, 1, 1), (0, 2, &[3, 2, 0, 9])),
+    case("k, last", U, (0x29, 2, 0), (0, 3, 0), (0, 2, &[1, 2, 0, 9])),
+    case("l", U, (0x2a, 3, 7), (0, 0, 0), (0, 4, &[1, 2, 3, 7])),
+    case("m, truncate", U, (0x2c, 5, 0), (0, 0, 0), U),
+    case("m, resize", U, (0x2d, 5, 0), (6, 0, 0), U),
+];
+
+// Paper 01's listing on its ring of capacity 4: each call with number, value, moves, head and length.
+const LISTING: [((u8, u64, u64), (u8, u32, u64, u64, u64)); 4] = [
+    ((0x16, 0, 10), (0, 0, 0, 0, 1)),
+    ((0x17, 0, 9), (0, 0, 0, 3, 2)),
+    ((0x16, 0, 11), (0, 0, 0, 3, 3)),
+    ((0x1b, 1, 0), (0, 10, 1, 3, 2)),
+];
+
+// The paper's cases as lines of a list.
+pub fn write_paper(pen: &mut Pen) {
+    for case in &PAPER {
+        pen.set_first(case.from.0, case.from.1, case.from.2);
+        pen.line(case.call.0, case.call.1, case.call.2);
+    }
+    pen.set_first(0, 0, &[0; 4]);
+    for (call, _) in &LISTING {
+        pen.line(call.0, call.1, call.2);
+    }
+}
+
+pub fn run() -> Result<(), String> {
+    for case in &PAPER {
+        let mut desk = Desk::default();
+        (desk.first.head, desk.first.len, desk.first.slots) = (case.from.0, case.from.1, case.from.2.to_vec());
+        let came = called(&mut desk, case.call)?;
+        let to = (desk.first.head, desk.first.len, &desk.first.slots[..]);
+        if came != case.answer || to != case.to {
+            return Err(format!("paper 01, case {}: the desk says {came:?} and leaves {to:?}; the paper says {:?} and {:?}", case.name, case.answer, case.to));
+        }
+    }
+    listing()?;
+    let bytes = to_the_byte()?;
+    println!("oracle selfcheck: {} cases of paper 01, its listing, and {bytes} answers to the byte agree with what was written by hand", PAPER.len());
+    Ok(())
+}
+
+fn listing() -> Result<(), String> {
+    let mut desk = Desk::default();
+    desk.first.slots = vec![0; 4];
+    for (k, (call, says)) in LISTING.iter().enumerate() {
+        let (number, value, moves) = called(&mut desk, *call)?;
+        let came = (number, value, moves, desk.first.head, desk.first.len);
+        if came != *says {
+            return Err(format!("paper 01, line {} of the listing: the desk says {came:?}, the paper {says:?}", k + 1));
+        }
+    }
+    Ok(())
+}
+
+// Number, value and moves, read back from what is printed.
+fn called(desk: &mut Desk, (code, a, b): (u8, u64, u64)) -> Result<(u8, u32, u64), String> {
+    let mut out = Vec::new();
+    let taken = desk.take_numbers(code, a, b, &mut out);
+    let text = String::from_utf8(out).map_err(|e| e.to_string())?;
+    let field = |k: usize| text.split(' ').nth(k).and_then(|x| u64::from_str_radix(x, 16).ok());
+    match (taken, field(0), field(1), field(2)) {
+        (Taken::Called(_, number), Some(n), Some(value), Some(moves)) if n == number as u64 => Ok((number, value as u32, moves)),
+        _ => Err(format!("the desk printed {text:?} for operation {code:02x}")),
+    }
+}
+
+// Lines with what they print, both written by hand: `_` stands for ten 0, so that they can be read.
+const BYTES: [(&str, &str); 30] = [
+    ("01_000004_000000", ""),
+    ("02_0000002_0000003", "! not 34 lower-case hexadecimal digits\n"),
+    ("02_000002_000003", ""),
+    ("03_000000_00000b", ""),
+    ("03_000001_0000ff", ""),
+    ("03_000002_000009", ""),
+    ("03_000003_00000a", ""),
+    ("04_000002_000000", ""),
+    ("06_000001_0000ee", ""),
+    ("06_000002_000000", "! out of reach\n"),
+    ("08_000002_000000", "! no such operation\n"),
+    ("03_000002_00000A", "! not 34 lower-case hexadecimal digits\n"),
+    // W with a stale free slot: insert 1, 8
+    ("1a_000001_000008", "00 00000000 _000001 _000001 _000004 _000000 _000000 _000000 _000000\n0000000b 00000009 00000008 0000000a \n00000000 000000ee \n"),
+    // split_off 3 leaves 0 where the last stood, and the other slot of T is kept
+    ("41_000003_000000", "00 00000000 _000000 _000001 _000003 _000000 _000001 _000000 _000000\n00000000 00000009 00000008 0000000a \n0000000b 000000ee \n"),
+    ("41_000003_000000", "05 00000000 _000000 _000001 _000003 _000000 _000001 _000000 _000000\n00000000 00000009 00000008 0000000a \n0000000b 000000ee \n"),
+    ("61_000000_000000", "00 00000000 _000000 _000001 _000003 _000000 _000001 _000000 _000003\n00000000 00000009 00000008 0000000a \n0000000b 000000ee \n"),
+    ("63_000000_000000", "00 0000000a _000000 _000001 _000003 _000000 _000001 _000000 _000002\n00000000 00000009 00000008 0000000a \n0000000b 000000ee \n"),
+    ("65_000001_000000", "00 00000009 _000000 _000001 _000003 _000000 _000001 _000000 _000002\n00000000 00000009 00000008 0000000a \n0000000b 000000ee \n"),
+    ("05_000009_000000", ""),
+    // from_iter: T is a vector, so its head 9 is not looked at
+    ("66_000000_000000", "00 00000000 _000000 _000001 _000003 _000000 _000002 _000002 _000002\n00000000 00000009 00000008 0000000a \n00000009 00000008 \n"),
+    ("62_000000_000000", "04 00000000 _000000 _000001 _000003 _000000 _000002 _000002 _000002\n00000000 00000009 00000008 0000000a \n00000009 00000008 \n"),
+    // no room for two more: both stay whole
+    ("40_000000_000000", "06 00000000 _000000 _000001 _000003 _000000 _000002 _000002 _000002\n00000000 00000009 00000008 0000000a \n00000009 00000008 \n"),
+    ("01_000001_000000", ""),
+    ("02_000000_000001", ""),
+    ("80_00001a_000000", "00 0000001a _000000 _000000 _000001 _000000 _000002 _000002 _000002\n00000000 \n00000009 00000008 \n0000000100000001\n00000000\n\n"),
+    ("81_00001b_000000", "00 0000001a _000000 _000000 _000001 _000000 _000002 _000002 _000002\n00000000 \n00000009 00000008 \n0100000100000001\n00000000\n-\n"),
+    ("80_000003_000000", "06 00000000 _000000 _000000 _000001 _000000 _000002 _000002 _000002\n00000000 \n00000009 00000008 \n---\n"),
+    ("3c_000000_000007", "00 00000001 _000000 _000000 _000001 _000000 _000002 _000002 _000002\n00000007 \n00000009 00000008 \n00000000 \n"),
+    ("11_000002_000000", "06 00000000 _000000 _000000 _000000 _000000 _000002 _000002 _000002\n00000007 \n00000009 00000008 \n"),
+    ("2f_000001_000000", "00 00000000 _000000 _000000 _000001 _000000 _000002 _000002 _000002\n00000009 \n00000009 00000008 \n"),
+];
+
+fn to_the_byte() -> Result<usize, String> {
+    let mut desk = Desk::default();
+    for (line, says) in BYTES {
+        let (line, says) = (line.replace('_', "0000000000"), says.replace('_', "0000000000"));
+        let mut came = Vec::new();
+        desk.take(line.as_bytes(), &mut came);
+        if came != says.as_bytes() {
+            return Err(format!("line {line}: the desk prints\n{}by hand it is\n{says}", String::from_utf8_lossy(&came)));
+        }
+    }
+    Ok(BYTES.iter().filter(|(_, says)| !says.is_empty()).count())
+}

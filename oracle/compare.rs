@@ -9,14 +9,20 @@ use crate::random::Random;
 use crate::tally::Tally;
 use std::io::{Read, Write};
 use std::process::{Child, ChildStdout, Command, Stdio};
+use std::sync::atomic::{AtomicU64, Ordering::Relaxed};
 use std::sync::{mpsc, Arc};
 use std::thread;
+use std::time::Duration;
 
 const BATCH: usize = 1 << 20; // bytes in and out together
 const AHEAD: usize = 8; // batches written before the first of them is read: what the program may hold back in buffers of its own
 
+const PATIENCE: u64 = 120; // seconds without a byte
+static CAME: AtomicU64 = AtomicU64::new(0); // bytes read so far
+
 pub fn run(replay: &str, millions: f64) -> Result<(), String> {
     let mut tally = Tally::new();
+    thread::spawn(watch);
     let starts: [&(dyn Fn(&mut Pen) + Sync); 7] = [
         &|_| {},
         &|pen| { pen.raw(b"", true); },
@@ -35,6 +41,19 @@ pub fn run(replay: &str, millions: f64) -> Result<(), String> {
     let calls = tally.calls() as f64 / 1e6;
     println!("{calls:.1} million calls compared, {calls:.1} million agreed, 0 differ");
     if missing.is_empty() { Ok(()) } else { Err(format!("the cases lack something: {}", missing.join(", "))) }
+}
+
+// A program that prints nothing any more would keep the comparison waiting for ever.
+fn watch() {
+    let (mut last, mut quiet) = (0, 0);
+    while quiet < PATIENCE {
+        thread::sleep(Duration::from_secs(1));
+        let now = CAME.load(Relaxed);
+        quiet = if now == last { quiet + 1 } else { 0 };
+        last = now;
+    }
+    println!("no answer came for {PATIENCE} seconds, after {last} bytes");
+    std::process::exit(1);
 }
 
 // All short cases, those at large capacities, damaged lines, then random ones until there are enough calls.
@@ -92,8 +111,11 @@ fn at_end(child: &mut Child, output: &mut ChildStdout) -> Result<(), String> {
 
 // The writer may still be at work, so this ends the whole.
 fn differs(child: &mut Child, words: &str) -> ! {
-    let _ = child.kill();
     println!("{words}");
+    match child.try_wait() {
+        Ok(Some(status)) => println!("the program ended by then, with {status}"),
+        _ => drop(child.kill()),
+    }
     std::process::exit(1);
 }
 
@@ -103,7 +125,10 @@ fn read(output: &mut ChildStdout, batch: &Batch) -> Result<(), String> {
     while got < came.len() {
         match output.read(&mut came[got..]) {
             Ok(0) => break,
-            Ok(k) => got += k,
+            Ok(k) => {
+                got += k;
+                CAME.fetch_add(k as u64, Relaxed);
+            }
             Err(e) => return Err(e.to_string()),
         }
     }
@@ -128,9 +153,10 @@ fn difference(batch: &Batch, came: &[u8]) -> String {
     let name = name.and_then(ops::find).map_or("no call", |op| op.name);
     let expected = &batch.expected[from..to];
     let lines = expected.iter().filter(|&&byte| byte == b'\n').count();
+    let ended = if came.len() < batch.expected.len() { "and there the output ended" } else { "" };
     let came: Vec<u8> = came[from.min(came.len())..].split_inclusive(|&byte| byte == b'\n').take(lines).flatten().copied().collect();
     format!(
-        "differs at byte {} of the answer to: {name}\nplaced:\n{}the line:\n{}expected:\n{}came:\n{}",
+        "differs at byte {} of the answer to: {name}\nplaced:\n{}the line:\n{}expected:\n{}came:\n{}{ended}",
         at - from, shown(&pen::placing(&desk)), shown(line), shown(expected), shown(&came)
     )
 }

@@ -206,7 +206,7 @@ fn from_iter(pen: &mut Pen, kind: Kind, share: &mut Share) {
 fn stored(pen: &mut Pen, kind: Kind, share: &mut Share) {
     for s in states(4) {
         let need = rules::text_length(s.cap);
-        for a in [0, 1, 16, 17, need - 2, need - 1, need, need + 1, need + 2, 40_001, u64::MAX] {
+        for a in (0..=need + 2).chain([40_001]).chain(WIDE) {
             if share.takes() {
                 set_first(pen, s);
                 share.call(pen, op(kind, Store).code, a, UNUSED);

@@ -32,7 +32,8 @@ pub fn run(dir: &str) -> Result<(), String> {
     std::fs::create_dir_all(dir).map_err(|e| format!("{dir}: {e}"))?;
     write("stdin", &input)?;
     write("stdout", &expected)?;
-    println!("{} calls, {} placing lines, {} lines that can't be taken; {} bytes in, {} bytes out", tally.calls(), tally.placed, tally.refused, input.len(), expected.len());
+    let Tally { placed, refused, .. } = tally;
+    println!("fixed list: {} calls, {placed} placing lines, {refused} lines that can't be taken; {} bytes in, {} out", tally.calls(), input.len(), expected.len());
     Ok(())
 }
 

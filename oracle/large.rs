@@ -20,7 +20,8 @@ pub fn every(pen: &mut Pen) {
 fn one(pen: &mut Pen, rng: &mut Rng, op: &Op, slots: &[u32]) {
     let cap = slots.len() as u64;
     let len = rng.pick(&[0, 1, 2, 7, cap / 2, cap / 2 + 1, cap - 1, cap, cap, cap + 1]);
-    let at = [0, 1, 5, len / 2, (len / 2).saturating_sub(1), len.saturating_sub(1), len, len + 1, cap - 1, cap, cap + 1, cap.saturating_sub(len), cap.saturating_sub(len) + 1];
+    let free = cap.saturating_sub(len);
+    let at = [0, 1, 5, len / 2, (len / 2).saturating_sub(1), len.saturating_sub(1), len, len + 1, cap - 1, cap, cap + 1, free, free + 1];
     let a = match op.act {
         Store => rules::text_length(cap) - 1 + rng.below(3),
         _ => rng.pick(&at),
@@ -29,7 +30,7 @@ fn one(pen: &mut Pen, rng: &mut Rng, op: &Op, slots: &[u32]) {
     pen.set_first(rng.pick(&[0, 1, cap / 2, cap - 3, cap - 2, cap - 1]), len, slots);
     if ops::has_second(op.act) || op.act == Extend {
         let room = rng.pick(&[cap, cap, len.min(cap), 3]);
-        let filled = if op.act == Append { (cap.saturating_sub(len) + rng.below(2)).min(room) } else { rng.below(8) / 7 };
+        let filled = if op.act == Append { (free + rng.below(2)).min(room) } else { rng.below(8) / 7 };
         pen.set_second(rng.pick(&[0, room / 2, room.saturating_sub(1)]), filled, &slots[..room as usize]);
     } else {
         pen.set_second(1, 1, &[4, 5, 6]);
@@ -39,28 +40,33 @@ fn one(pen: &mut Pen, rng: &mut Rng, op: &Op, slots: &[u32]) {
     pen.line(op.code, a, b);
 }
 
-// The few large calls of the fixed list: only slots near the ends are placed, since each call prints all of them.
-pub fn few(pen: &mut Pen) {
-    wrapped(pen, 256, 250, 200);
-    for (code, a, b) in [(0x1a, 3, 1), (0x1a, 199, 2), (0x1b, 2, 0), (0x1b, 198, 0), (0x16, 0, 3), (0x17, 0, 4), (0x18, 0, 0), (0x19, 0, 0), (0x1d, 256, 5), (0x16, 0, 6), (0x1c, 9, 0)] {
-        pen.line(code, a, b);
-    }
-    wrapped(pen, 257, 254, 20);
-    for (code, a, b) in [(0x80, 2330, 0), (0x80, 2329, 0), (0x29, 0, 0), (0x2a, 256, 1), (0x2a, 10, 9), (0x2d, 257, 8), (0x26, 0, 1), (0x33, 3, 257), (0x33, 3, 258)] {
-        pen.line(code, a, b);
-    }
-    wrapped(pen, 4096, 4090, 4095);
-    for (code, a, b) in [(0x1a, 2047, 1), (0x1b, 2048, 0), (0x1b, 2046, 0), (0x17, 0, 2), (0x19, 0, 0), (0x80, 36_881, 0), (0x80, 36_880, 0), (0x14, 3, 0), (0x1d, 4097, 0), (0x62, 0, 0)] {
-        pen.line(code, a, b);
-    }
+type Call = (u8, u64, u64);
+
+// Capacity, head, length, and the calls from there.
+const FEW: [(u64, u64, u64, &[Call]); 5] = [
+    (256, 250, 200, &[
+        (0x1a, 3, 1), (0x1a, 199, 2), (0x1b, 2, 0), (0x1b, 198, 0), (0x16, 0, 3), (0x17, 0, 4), (0x18, 0, 0), (0x19, 0, 0),
+        (0x1d, 256, 5), (0x16, 0, 6), (0x1c, 9, 0),
+    ]),
+    (257, 254, 20, &[
+        (0x80, 2330, 0), (0x80, 2329, 0), (0x29, 0, 0), (0x2a, 256, 1), (0x2a, 10, 9), (0x2d, 257, 8), (0x26, 0, 1), (0x33, 3, 257), (0x33, 3, 258),
+    ]),
+    (4096, 4090, 4095, &[
+        (0x1a, 2047, 1), (0x1b, 2048, 0), (0x1b, 2046, 0), (0x17, 0, 2), (0x19, 0, 0), (0x80, 36_881, 0), (0x80, 36_880, 0), (0x14, 3, 0),
+        (0x1d, 4097, 0), (0x62, 0, 0),
+    ]),
     // Above 4,096 slots every state is invalid, and a making is refused.
-    wrapped(pen, 4097, 1, 2);
-    for (code, a, b) in [(0x16, 0, 1), (0x10, 0, 0), (0x11, 1, 0), (0x20, 0, 0), (0x21, 1, 0), (0x28, 1, 1)] {
-        pen.line(code, a, b);
-    }
-    wrapped(pen, 4200, 4199, 3);
-    for (code, a, b) in [(0x12, 0, 0), (0x39, 0, 0)] {
-        pen.line(code, a, b);
+    (4097, 1, 2, &[(0x16, 0, 1), (0x10, 0, 0), (0x11, 1, 0), (0x20, 0, 0), (0x21, 1, 0), (0x28, 1, 1)]),
+    (4200, 4199, 3, &[(0x12, 0, 0), (0x39, 0, 0)]),
+];
+
+// The few large calls of the fixed list: only slots near the ends and the middle are placed, since each call prints all of them.
+pub fn few(pen: &mut Pen) {
+    for (cap, head, len, calls) in FEW {
+        wrapped(pen, cap, head, len);
+        for &(code, a, b) in calls {
+            pen.line(code, a, b);
+        }
     }
     pen.line(1, 0, 0);
 }

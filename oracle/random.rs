@@ -125,9 +125,10 @@ impl Random {
         pen.line(7, front, back);
     }
 
-    // What may stand between two calls.
+    // What may stand between two calls. An emptied container is soon filled again, else most calls would be refused.
     fn between(&mut self, pen: &mut Pen) {
-        match self.rng.below(60) {
+        let emptied = pen.desk.first.len == 0 && self.rng.one_in(3);
+        match if emptied { 4 } else { self.rng.below(60) } {
             0 => damaged::some(pen, &mut self.rng),
             1..=3 => self.place_cursor(pen),
             4..=5 => {
@@ -157,7 +158,8 @@ impl Random {
         match rng.below(40) {
             0 => rng.pick(&WIDE),
             1 => rng.pick(&[n.wrapping_neg(), c.wrapping_neg(), free.wrapping_add(1 << 32), (1 << 32) + c, u64::MAX - n]),
-            2..=12 => rng.pick(&[0, 1, n / 2, n / 2 + 1, n.wrapping_sub(1), n, n.wrapping_add(1), free, free.wrapping_add(1), free.wrapping_sub(1), c, c + 1, c.wrapping_sub(1)]),
+            2..=4 => rng.pick(&[0, 1, n / 2, n / 2 + 1]),
+            5..=12 => rng.pick(&[n, free, c]).wrapping_add(rng.below(3)).wrapping_sub(1),
             _ => rng.below(n.min(c) + 1),
         }
     }
@@ -167,7 +169,7 @@ impl Random {
         loop {
             let op = &OPS[self.rng.below(OPS.len() as u64) as usize];
             let seldom = rules::is_making(op.act) || matches!(op.act, Clear | Store);
-            if kinds.contains(&op.kind) && (!seldom || self.rng.one_in(6)) {
+            if kinds.contains(&op.kind) && (!seldom || self.rng.one_in(12)) {
                 return op;
             }
         }
@@ -177,6 +179,8 @@ impl Random {
         let op = self.operation(kinds);
         let a = match op.act {
             Store => self.text(pen),
+            Truncate | SplitOff if !self.rng.one_in(3) => pen.desk.first.len.saturating_sub(self.rng.below(4)),
+            Resize if !self.rng.one_in(3) => pen.desk.first.slots.len() as u64 + 1 - self.rng.below(4).min(pen.desk.first.slots.len() as u64),
             Extend => self.rng.below(pen.desk.second.slots.len() as u64 + 1) + self.rng.one_in(50) as u64,
             Range | AskRange => self.position(pen),
             act if ops::has_position(act) => self.position(pen),

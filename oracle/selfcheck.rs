@@ -75,8 +75,29 @@ pub fn run() -> Result<(), String> {
     }
     listing()?;
     let bytes = to_the_byte()?;
-    println!("oracle selfcheck: {} cases of paper 01, its listing, and {bytes} answers to the byte agree with what was written by hand", PAPER.len());
+    let counts = shorter_side()?;
+    println!("oracle selfcheck: {} cases of paper 01, its listing and {bytes} answers to the byte agree with what was written by hand,", PAPER.len());
+    println!("and {counts} counts of moves with the paper's formula for a ring");
     Ok(())
+}
+
+// The desk counts moves entry by entry; for a ring the paper says what that comes to.
+fn shorter_side() -> Result<usize, String> {
+    let mut checked = 0;
+    for (cap, head, len) in (1..8u64).flat_map(|c| (0..c).flat_map(move |h| (0..=c).map(move |n| (c, h, n)))) {
+        for i in 0..=len {
+            for (code, done, says) in [(0x1a, len < cap, i.min(len - i)), (0x1b, i < len, i.min((len - i).saturating_sub(1)))] {
+                let mut desk = Desk::default();
+                (desk.first.head, desk.first.len, desk.first.slots) = (head, len, (0..cap as u32).collect());
+                let (number, _, moves) = called(&mut desk, (code, i, 1))?;
+                if (number == 0) != done || done && moves != says {
+                    return Err(format!("operation {code:02x} at {i}, capacity {cap}, head {head}, length {len}: {moves} moves counted, {says} by the formula"));
+                }
+                checked += done as usize;
+            }
+        }
+    }
+    Ok(checked)
 }
 
 fn listing() -> Result<(), String> {

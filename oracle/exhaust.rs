@@ -15,7 +15,7 @@ const WIDE: [u64; 4] = [1 << 32, (1 << 32) + 1, 1 << 63, u64::MAX]; // a number 
 pub struct Share {
     seen: usize,
     chosen: Option<Vec<bool>>,
-    pub log: Vec<Taken>,
+    pub log: Vec<(Taken, u8)>, // with the group it belongs to, where one call has several
 }
 
 impl Share {
@@ -33,8 +33,12 @@ impl Share {
     }
 
     fn call(&mut self, pen: &mut Pen, code: u8, a: u64, b: u64) {
+        self.call_of(0, pen, code, a, b);
+    }
+
+    fn call_of(&mut self, group: u8, pen: &mut Pen, code: u8, a: u64, b: u64) {
         let taken = pen.line(code, a, b);
-        self.log.push(taken);
+        self.log.push((taken, group));
     }
 }
 
@@ -158,7 +162,8 @@ fn sameness(pen: &mut Pen, kind: Kind, share: &mut Share) {
                             *slot += 0x10;
                         }
                         pen.set_second(t.head, t.len, &like);
-                        share.call(pen, op(kind, Same).code, UNUSED, UNUSED);
+                        let group = [by_entry, changed == t.cap, s.cap == t.cap, s.head == t.head].iter().fold(1, |sum, &bit| 2 * sum + bit as u8);
+                        share.call_of(group, pen, op(kind, Same).code, UNUSED, UNUSED);
                     }
                 }
             }

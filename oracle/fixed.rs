@@ -11,7 +11,7 @@ use crate::tally::Tally;
 use std::collections::BTreeMap;
 
 const DONE: usize = 32;
-const REFUSED: usize = 8;
+const REFUSED: usize = 8; // of a group of several too
 const BATCH: usize = 1 << 20;
 
 // Writes both files. It is an error if some call doesn't answer each of its numbers.
@@ -60,7 +60,7 @@ fn list(pen: &mut Pen) {
     pen.set_second(0, 0, &[]);
     damaged::each(pen);
     damaged::long(pen, &[100, 4095, 4096, 4097, 70_000]);
-    pen.say("Capacities 256, 257, 4096, 4097 and 4200; only slots near an end or the middle are placed.");
+    pen.say("Capacities 16, 17, 256, 257, 4096, 4097 and 4200; only slots near an end or the middle are placed.");
     large::few(pen);
     pen.say("The last line has no LF and counts.");
     pen.raw(b"1600000000000000000000000000000001", false);
@@ -70,15 +70,15 @@ fn list(pen: &mut Pen) {
 fn sample() -> Vec<bool> {
     let mut all = Share::all();
     exhaust::every(&mut Pen::new(BATCH, Tally::new(), |_| {}), &mut all);
-    let mut places: BTreeMap<(u8, u8), Vec<usize>> = BTreeMap::new();
-    for (k, taken) in all.log.iter().enumerate() {
-        let key = if let Taken::Called(code, number) = *taken { (code, number) } else { (0, 1) };
+    let mut places: BTreeMap<(u8, u8, u8), Vec<usize>> = BTreeMap::new();
+    for (k, &(taken, group)) in all.log.iter().enumerate() {
+        let key = if let Taken::Called(code, number) = taken { (code, number, group) } else { (0, 1, 0) };
         places.entry(key).or_default().push(k);
     }
     let mut chosen = vec![false; all.log.len()];
     let mut rng = Rng::new(0x11f7);
-    for ((_, number), places) in &places {
-        for _ in 0..if *number == 0 { DONE } else { REFUSED } {
+    for ((_, number, group), places) in &places {
+        for _ in 0..if (*number, *group) == (0, 0) { DONE } else { REFUSED } {
             chosen[rng.pick(places)] = true;
         }
     }

@@ -49,13 +49,12 @@ pub fn answer(out: &mut Vec<u8>, number: u8, value: u32, moves: u64, rest: [u64;
     out.push(b'\n');
 }
 
-// A line of slots, or of what stood in a part.
+// A line for each slot, or for each entry that stood in a part.
 pub fn entries(out: &mut Vec<u8>, slots: &[u32]) {
     for x in slots {
         digits::<8>(out, *x as u64);
-        out.push(b' ');
+        out.push(b'\n');
     }
-    out.push(b'\n');
 }
 
 pub fn text(out: &mut Vec<u8>, text: &[u8]) {

@@ -1,94 +1,37 @@
 // Measures the proved calls against Rust's own containers, side by side in one run: each round times a batch on one side and then the same batch
-// on the other, and the rows are gone through several times. Prints the ratios and writes them, with what falls short and why, to a file.
+// on the others, and the rows are gone through several times. Prints the ratios and writes them, with what falls short and why, to a file.
 #[cfg(arrayvec)]
 mod array;
-mod ours;
+mod rows;
 mod theirs;
 mod work;
 
+// The proved calls, twice: as the tree has them, and from the archive of the copy whose slot compares, where each has a name of its own.
+macro_rules! linked {
+    ($name:ident) => { stringify!($name) };
+}
+mod ours;
+macro_rules! linked {
+    ($name:ident) => { concat!("compared_", stringify!($name)) };
+}
+#[path = "ours.rs"]
+#[allow(dead_code)] // a vector is measured once
+mod compared;
+
+use rows::{rows, Row, Side};
 use std::fmt::Write;
 use std::time::Instant;
-use work::*;
+use work::Came;
 
 const CAPS: [usize; 3] = [16, 256, 4096];
 const MOST: [f64; 3] = [1.1, 1.0, 1.0]; // the ratio to reach at each
 const BATCH: f64 = 40_000.0; // nanoseconds
 const PASSES: usize = 5;
 
-type Side = Box<dyn FnMut(usize) -> Came>;
-
-struct Row {
-    name: &'static str,
-    why: &'static str, // what keeps it above the ratio, where it is
-    sides: [fn() -> (Side, Side); 3], // at each capacity
-}
-
-// The same work on both sides, at each capacity, on a container that is three quarters full.
-macro_rules! row {
-    ($name:literal, $why:expr, $begin:ident, $theirs:ident, $kind:ident $which:tt, |$c:ident, $n:ident, $spots:ident, $k:ident| $work:expr) => {
-        Row {
-            name: $name,
-            why: $why,
-            sides: [
-                row!(16, $begin, $theirs, $kind $which, $c, $n, $spots, $k, $work),
-                row!(256, $begin, $theirs, $kind $which, $c, $n, $spots, $k, $work),
-                row!(4096, $begin, $theirs, $kind $which, $c, $n, $spots, $k, $work),
-            ],
-        }
-    };
-    ($cap:literal, $begin:ident, $theirs:ident, $kind:ident [$($which:literal)?], $c:ident, $n:ident, $spots:ident, $k:ident, $work:expr) => {
-        || {
-            let $n = $cap * 3 / 4;
-            let $spots = Spots::new();
-            let $c: ours::$kind<$cap $(, $which)?> = $begin($cap, $n);
-            let a: Side = Box::new(move |$k| { let _ = (&$spots, $n); $work });
-            let $spots = Spots::new();
-            let $c: $theirs::$kind<$cap $(, $which)?> = $begin($cap, $n);
-            let b: Side = Box::new(move |$k| { let _ = (&$spots, $n); $work });
-            (a, b)
-        }
-    };
-}
-
-const SLOT: &str = "the slot's division, which request 06 takes away, and the test of the state, which Rust's type makes unneeded";
-const STATE: &str = "the test of the state, which Rust's type makes unneeded; the compiler joins its comparisons by flags where branches would be cheaper";
-const COPY: &str = "nothing tells the compiler that two lent runs do not overlap, so a copy between them is a loop of 16-byte registers where Rust calls memcpy";
-const ZERO: &str = "paper 01 has every freed slot hold 0, which Rust leaves as it was; and the copy is no memcpy (see vector extend)";
-const CLONE: &str = "the slot's divisions, which request 06 takes away; and the copy is a loop of 16-byte registers, whose speed depends on where it lies in the archive: in the copy with the slot by comparison, below, it is level at 4,096";
-const ZERO_SLOT: &str = "paper 01 has every freed slot hold 0, which Rust leaves as it was; and the slot's division hides the run from the compiler, which calls memset once it is gone (request 06)";
-const APPEND: &str = "the slots that T frees are set to 0, as paper 01 has it, and the copy is no memcpy (see vector extend); the slot's division (request 06) hides the run of zeros";
-const SMALL: &str = "the test of the state and the words of the answer, beside a shift of a few entries";
-
-fn rows() -> Vec<Row> {
-    vec![
-        row!("push_back + pop_front", SLOT, wrapped, theirs, Ring [0], |r, n, spots, k| ring_queue(r, k)),
-        row!("push_front + pop_back", SLOT, wrapped, theirs, Ring [0], |r, n, spots, k| ring_queue_back(r, k)),
-        row!("read", SLOT, wrapped, theirs, Ring [0], |r, n, spots, k| ring_read(r, n, &spots, k)),
-        row!("insert + remove", SLOT, wrapped, theirs, Ring [0], |r, n, spots, k| ring_shift(r, n, &spots, k)),
-        row!("clear + resize", ZERO_SLOT, wrapped, theirs, Ring [0], |r, n, spots, k| ring_refill(r, n, k)),
-        row!("append", APPEND, paired, theirs, Rings [], |p, n, spots, k| pair_append(p, k)),
-        row!("clone", CLONE, paired, theirs, Rings [], |p, n, spots, k| pair_clone(p, k)),
-        row!("walk by cursor", SLOT, wrapped, theirs, Ring [0], |r, n, spots, k| ring_walk(r, k)),
-        row!("vector push + pop", STATE, counted, theirs, Vector [], |v, n, spots, k| vector_stack(v, k)),
-        row!("vector read", STATE, counted, theirs, Vector [], |v, n, spots, k| vector_read(v, n, &spots, k)),
-        row!("vector insert + remove", SMALL, counted, theirs, Vector [], |v, n, spots, k| vector_shift(v, n, &spots, k)),
-        row!("vector swap_remove + push", STATE, counted, theirs, Vector [], |v, n, spots, k| vector_swap(v, n, &spots, k)),
-        row!("vector extend", COPY, counted, theirs, Vector [], |v, n, spots, k| vector_extend(v, &LENT[..n], k)),
-        row!("vector extend + truncate", ZERO, counted, theirs, Vector [], |v, n, spots, k| vector_extend_truncate(v, n, &LENT[..n / 3], k)),
-        #[cfg(arrayvec)]
-        row!("arrayvec push + pop", STATE, counted, array, Vector [], |v, n, spots, k| vector_stack(v, k)),
-        #[cfg(arrayvec)]
-        row!("arrayvec read", STATE, counted, array, Vector [], |v, n, spots, k| vector_read(v, n, &spots, k)),
-        #[cfg(arrayvec)]
-        row!("arrayvec insert + remove", SMALL, counted, array, Vector [], |v, n, spots, k| vector_shift(v, n, &spots, k)),
-        #[cfg(arrayvec)]
-        row!("arrayvec swap_remove + push", STATE, counted, array, Vector [], |v, n, spots, k| vector_swap(v, n, &spots, k)),
-        #[cfg(arrayvec)]
-        row!("arrayvec extend", COPY, counted, array, Vector [], |v, n, spots, k| vector_extend(v, &LENT[..n], k)),
-    ]
-}
-
-static LENT: [u32; 4096] = [7; 4096];
+// The sides of a row.
+const OURS: usize = 0;
+const THEIRS: usize = 1;
+const COMPARED: usize = 2;
 
 fn median(xs: &mut [f64]) -> f64 {
     xs.sort_by(f64::total_cmp);
@@ -101,46 +44,82 @@ fn time(side: &mut Side, k: usize) -> (f64, Came) {
     (start.elapsed().as_nanos() as f64 / k as f64, came)
 }
 
-// The times of both sides, and their ratio, round by round.
+// Of each side, its times and their ratio to Rust's, round by round.
 #[derive(Default)]
 struct Times {
-    ours: Vec<f64>,
-    theirs: Vec<f64>,
-    ratio: Vec<f64>,
+    spent: [Vec<f64>; 3],
+    ratio: [Vec<f64>; 3],
 }
 
 fn measure(row: &Row, at: usize, rounds: usize, times: &mut Times) {
-    let (mut a, mut b) = row.sides[at]();
+    let mut sides = row.sides[at]();
+    let count = sides.len();
     let mut k = 16;
-    while time(&mut b, k).0 * (k as f64) < BATCH {
-        a(k);
+    loop {
+        let spent = (0..count).map(|side| time(&mut sides[side], k).0).collect::<Vec<_>>();
+        if spent[THEIRS] * (k as f64) >= BATCH {
+            break;
+        }
         k *= 2;
     }
-    a(k);
     for round in 0..rounds {
-        let (s, t) = if round % 2 == 0 {
-            let s = time(&mut a, k);
-            (s, time(&mut b, k))
-        } else {
-            let t = time(&mut b, k);
-            (time(&mut a, k), t)
-        };
-        assert_eq!(s.1, t.1, "{} at {}: the two sides gave other entries", row.name, CAPS[at]);
-        times.ours.push(s.0);
-        times.theirs.push(t.0);
-        times.ratio.push(s.0 / t.0);
+        let mut seen: [(f64, Came); 3] = Default::default();
+        for turn in 0..count {
+            let side = (round + turn) % count;
+            seen[side] = time(&mut sides[side], k);
+        }
+        for side in 0..count {
+            assert_eq!(seen[side].1, seen[THEIRS].1, "{} at {}: side {side} gave other entries than Rust's", row.name, CAPS[at]);
+            times.spent[side].push(seen[side].0);
+            times.ratio[side].push(seen[side].0 / seen[THEIRS].0);
+        }
     }
 }
 
-// A line of the table, and one of what falls short.
-fn lines(row: &Row, times: &mut [Times; 3], short: &mut String) -> String {
-    let ratios: Vec<f64> = times.iter_mut().map(|t| median(&mut t.ratio)).collect();
-    let spans: Vec<String> = times.iter_mut().map(|t| format!("{:.1} / {:.1}", median(&mut t.ours), median(&mut t.theirs))).collect();
-    let over: Vec<String> = (0..3).filter(|&c| ratios[c] > MOST[c] + 0.005).map(|c| CAPS[c].to_string()).collect();
-    if !over.is_empty() {
-        writeln!(short, "| {} | {} | {} |", row.name, over.join(", "), row.why).unwrap();
+// A row as it came out.
+struct Found {
+    name: &'static str,
+    why: &'static str,
+    ours: Vec<f64>,     // its ratios
+    compared: Vec<f64>, // those with the slot by comparison; none of a vector
+    spans: Vec<String>,
+}
+
+impl Found {
+    fn new(row: &Row, times: &mut [Times; 3]) -> Found {
+        let ratios = |times: &mut [Times; 3], side: usize| times.iter_mut().filter(|t| !t.ratio[side].is_empty()).map(|t| median(&mut t.ratio[side])).collect();
+        Found {
+            name: row.name,
+            why: row.why,
+            ours: ratios(times, OURS),
+            compared: ratios(times, COMPARED),
+            spans: times.iter_mut().map(|t| format!("{:.1} / {:.1}", median(&mut t.spent[OURS]), median(&mut t.spent[THEIRS]))).collect(),
+        }
     }
-    format!("| {} | {:.2} | {:.2} | {:.2} | {} | {} | {} |", row.name, ratios[0], ratios[1], ratios[2], spans[0], spans[1], spans[2])
+
+    fn line(&self) -> String {
+        let all = |ratios: &[f64]| ratios.iter().map(|r| format!("{r:.2}")).collect::<Vec<_>>();
+        let compared = if self.compared.is_empty() { "no slot".into() } else { all(&self.compared).join(" / ") };
+        format!("| {} | {} | {} | {} |", self.name, all(&self.ours).join(" | "), compared, self.spans.join(" | "))
+    }
+
+    // What falls short, if it does.
+    fn short(&self) -> Option<String> {
+        let now = over(&self.ours);
+        let then = if self.compared.is_empty() { now.clone() } else { over(&self.compared) };
+        let said = |caps: &[String]| if caps.is_empty() { "nowhere".into() } else { caps.join(", ") };
+        (!now.is_empty()).then(|| format!("| {} | {} | {} | {} |", self.name, said(&now), said(&then), self.why))
+    }
+
+    // Whether it falls short now, and somewhere no more with the slot by comparison.
+    fn waits(&self) -> bool {
+        !self.compared.is_empty() && over(&self.compared).len() < over(&self.ours).len()
+    }
+}
+
+// The capacities at which a row is above the ratio to reach.
+fn over(ratios: &[f64]) -> Vec<String> {
+    (0..3).filter(|&c| ratios[c] > MOST[c] + 0.005).map(|c| CAPS[c].to_string()).collect()
 }
 
 fn said(name: &str) -> String {
@@ -159,12 +138,14 @@ fn main() {
             }
         }
     }
+    let found: Vec<Found> = rows.iter().zip(&mut times).map(|(row, times)| Found::new(row, times)).collect();
     let (mut table, mut short) = (String::new(), String::new());
-    for (row, times) in rows.iter().zip(&mut times) {
-        let line = lines(row, times, &mut short);
-        println!("{line}");
-        writeln!(table, "{line}").unwrap();
+    for f in &found {
+        println!("{}", f.line());
+        writeln!(table, "{}", f.line()).unwrap();
+        f.short().into_iter().for_each(|line| writeln!(short, "{line}").unwrap());
     }
+    let waiting: Vec<&str> = found.iter().filter(|f| f.waits()).map(|f| f.name).collect();
     let Some(file) = args.get(2) else { return };
     let paper = include_str!("paper.md")
         .replace("{processor}", &said("BENCH_PROCESSOR"))
@@ -172,6 +153,7 @@ fn main() {
         .replace("{rattle}", &said("BENCH_RATTLE"))
         .replace("{arrayvec}", &said("BENCH_ARRAYVEC"))
         .replace("{rounds}", &(rounds * PASSES).to_string())
+        .replace("{waiting}", &if waiting.is_empty() { "none".into() } else { waiting.join("; ") })
         .replace("{table}", table.trim_end())
         .replace("{short}", short.trim_end());
     std::fs::write(file, paper).expect("the paper cannot be written");

@@ -1,11 +1,20 @@
-// The proved calls, as the archive exports them. A caller lends slots that stand at a fixed place, as firmware does.
+// The proved calls, as an archive exports them. A caller lends slots that stand at a fixed place, as firmware does. This file is taken in twice,
+// once for each archive: `linked` gives the name that a call has in it.
 use crate::work;
 
 // An answer: the value in the low 32 bits, the moves in the next 24, the number in the high 8.
 type Word = u64;
 type State = [usize; 2]; // a ring's head and length
 
-extern "C" {
+macro_rules! calls {
+    ($(fn $name:ident($($arg:ident: $type:ty),*) -> Word;)*) => {
+        extern "C" {
+            $(#[link_name = linked!($name)] fn $name($($arg: $type),*) -> Word;)*
+        }
+    };
+}
+
+calls! {
     fn tum_ring_push_back(slots: *mut u32, cap: usize, state: *mut State, x: u32) -> Word;
     fn tum_ring_push_front(slots: *mut u32, cap: usize, state: *mut State, x: u32) -> Word;
     fn tum_ring_pop_back(slots: *mut u32, cap: usize, state: *mut State) -> Word;

@@ -1,0 +1,88 @@
+// The rows of the table: what each measures, on which sides, and what keeps it above the ratio to reach, where something does.
+#[cfg(arrayvec)]
+use crate::array;
+use crate::work::*;
+use crate::{compared, ours, theirs};
+
+pub type Side = Box<dyn FnMut(usize) -> Came>;
+
+pub struct Row {
+    pub name: &'static str,
+    pub why: &'static str, // what keeps it above the ratio, where it is
+    pub sides: [fn() -> Vec<Side>; 3], // at each capacity: ours, Rust's, and ours with the slot by comparison
+}
+
+// The same work on each side, at each capacity, on a container that is three quarters full.
+macro_rules! row {
+    ($name:literal, $why:expr, $theirs:ident, $kind:ident, $($rest:tt)*) => {
+        Row {
+            name: $name,
+            why: $why,
+            sides: [
+                || sides!($kind, $theirs, 16, $($rest)*),
+                || sides!($kind, $theirs, 256, $($rest)*),
+                || sides!($kind, $theirs, 4096, $($rest)*),
+            ],
+        }
+    };
+}
+
+// A vector's positions are its slots, so it has two sides only.
+macro_rules! sides {
+    (Vector, $theirs:ident, $($rest:tt)*) => {
+        vec![side!(ours, Vector, $($rest)*), side!($theirs, Vector, $($rest)*)]
+    };
+    ($kind:ident, $theirs:ident, $($rest:tt)*) => {
+        vec![side!(ours, $kind, $($rest)*), side!($theirs, $kind, $($rest)*), side!(compared, $kind, $($rest)*)]
+    };
+}
+
+macro_rules! side {
+    ($side:ident, $kind:ident, $cap:literal, [$($which:literal)?], $begin:ident, |$c:ident, $n:ident, $spots:ident, $k:ident| $work:expr) => {{
+        let $n = $cap * 3 / 4;
+        let $spots = Spots::new();
+        let $c: $side::$kind<$cap $(, $which)?> = $begin($cap, $n);
+        let side: Side = Box::new(move |$k| { let _ = (&$spots, $n); $work });
+        side
+    }};
+}
+
+const SLOT: &str = "the slot's division, which request 06 takes away, and the test of the state, which Rust's type makes unneeded";
+const STATE: &str = "the test of the state, which Rust's type makes unneeded; the compiler joins its comparisons by flags where branches would be cheaper";
+const COPY: &str = "nothing tells the compiler that two lent runs do not overlap, so a copy between them is a loop of 16-byte registers where Rust calls memcpy";
+const ZERO: &str = "paper 01 has every freed slot hold 0, which Rust leaves as it was; and the copy is no memcpy (see vector extend)";
+const CLONE: &str = "the slot's divisions, which request 06 takes away; and the copy is a loop of 16-byte registers, whose speed depends on where it lies in the archive: with the slot by comparison it can come out level at 4,096";
+const ZERO_SLOT: &str = "paper 01 has every freed slot hold 0, which Rust leaves as it was; and the slot's division hides the run from the compiler, which calls memset once it is gone (request 06)";
+const APPEND: &str = "the slots that T frees are set to 0, as paper 01 has it, and the copy is no memcpy (see vector extend); the slot's division (request 06) hides the run of zeros";
+const SMALL: &str = "the test of the state and the words of the answer, beside a shift of a few entries";
+
+pub fn rows() -> Vec<Row> {
+    vec![
+        row!("push_back + pop_front", SLOT, theirs, Ring, [0], wrapped, |r, n, spots, k| ring_queue(r, k)),
+        row!("push_front + pop_back", SLOT, theirs, Ring, [0], wrapped, |r, n, spots, k| ring_queue_back(r, k)),
+        row!("read", SLOT, theirs, Ring, [0], wrapped, |r, n, spots, k| ring_read(r, n, &spots, k)),
+        row!("insert + remove", SLOT, theirs, Ring, [0], wrapped, |r, n, spots, k| ring_shift(r, n, &spots, k)),
+        row!("clear + resize", ZERO_SLOT, theirs, Ring, [0], wrapped, |r, n, spots, k| ring_refill(r, n, k)),
+        row!("append", APPEND, theirs, Rings, [], paired, |p, n, spots, k| pair_append(p, k)),
+        row!("clone", CLONE, theirs, Rings, [], paired, |p, n, spots, k| pair_clone(p, k)),
+        row!("walk by cursor", SLOT, theirs, Ring, [0], wrapped, |r, n, spots, k| ring_walk(r, k)),
+        row!("vector push + pop", STATE, theirs, Vector, [], counted, |v, n, spots, k| vector_stack(v, k)),
+        row!("vector read", STATE, theirs, Vector, [], counted, |v, n, spots, k| vector_read(v, n, &spots, k)),
+        row!("vector insert + remove", SMALL, theirs, Vector, [], counted, |v, n, spots, k| vector_shift(v, n, &spots, k)),
+        row!("vector swap_remove + push", STATE, theirs, Vector, [], counted, |v, n, spots, k| vector_swap(v, n, &spots, k)),
+        row!("vector extend", COPY, theirs, Vector, [], counted, |v, n, spots, k| vector_extend(v, &LENT[..n], k)),
+        row!("vector extend + truncate", ZERO, theirs, Vector, [], counted, |v, n, spots, k| vector_extend_truncate(v, n, &LENT[..n / 3], k)),
+        #[cfg(arrayvec)]
+        row!("arrayvec push + pop", STATE, array, Vector, [], counted, |v, n, spots, k| vector_stack(v, k)),
+        #[cfg(arrayvec)]
+        row!("arrayvec read", STATE, array, Vector, [], counted, |v, n, spots, k| vector_read(v, n, &spots, k)),
+        #[cfg(arrayvec)]
+        row!("arrayvec insert + remove", SMALL, array, Vector, [], counted, |v, n, spots, k| vector_shift(v, n, &spots, k)),
+        #[cfg(arrayvec)]
+        row!("arrayvec swap_remove + push", STATE, array, Vector, [], counted, |v, n, spots, k| vector_swap(v, n, &spots, k)),
+        #[cfg(arrayvec)]
+        row!("arrayvec extend", COPY, array, Vector, [], counted, |v, n, spots, k| vector_extend(v, &LENT[..n], k)),
+    ]
+}
+
+static LENT: [u32; 4096] = [7; 4096];

@@ -1,5 +1,6 @@
 -- The laws that the containers' proofs cite, and the theorems on the table.
 pub mod Valid
+pub mod Stops
 pub mod Refusals
 pub mod Moves
 pub mod Done

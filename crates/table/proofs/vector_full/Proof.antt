@@ -1,0 +1,12 @@
+-- `table::vector_full` meets its promise. Assumes nothing.
+use native.Mathlib.Omega.{arith}
+use Rattle.slots.specs.Layout.{vector}
+use Rattle.table.proofs.Valid.{vector-facts}
+use Rattle.table.proofs.Stops.{vector-roomy, stopped, stopped-below}
+use Rattle.table.proofs.vector_full.Statement.{statement}
+use Rattle.table.proofs.vector_full.Tie as tie
+
+pub vector-full-spec : {M : Type 1} → statement M
+vector-full-spec =
+    tie.close
+    (tie.spec (λ c. stopped-below vector _ _ _ _ _ _ (stopped vector _ _ _ _ _ (vector-roomy _ _) (omega arith) (vector-facts _ _)) (omega arith)))

@@ -61,10 +61,10 @@ impl Ring {
         let cap = slots.len();
         let head = self.head;
         let len = self.len;
-        if table::invalid_ring(cap, head, len) {
-            return refused(1, self);
-        }
-        if len <= i {
+        if table::ring_lacks(cap, head, len, i) {
+            if table::invalid_ring(cap, head, len) {
+                return refused(1, self);
+            }
             return refused(3, self);
         }
         let at = slots::slot(cap, head, i); // i < len: a free slot's number is no entry
@@ -93,10 +93,10 @@ impl Ring {
         let cap = slots.len();
         let head = self.head;
         let len = self.len;
-        if table::invalid_ring(cap, head, len) {
-            return refused(1, self);
-        }
-        if len <= i {
+        if table::ring_lacks(cap, head, len, i) {
+            if table::invalid_ring(cap, head, len) {
+                return refused(1, self);
+            }
             return refused(3, self);
         }
         let at = slots::slot(cap, head, i);
@@ -111,10 +111,10 @@ impl Ring {
         let cap = slots.len();
         let head = self.head;
         let len = self.len;
-        if table::invalid_ring(cap, head, len) {
-            return refused(1, self);
-        }
-        if cap <= len {
+        if table::ring_full(cap, head, len) {
+            if table::invalid_ring(cap, head, len) {
+                return refused(1, self);
+            }
             return refused(6, self);
         }
         let at = slots::slot(cap, head, len);
@@ -128,10 +128,10 @@ impl Ring {
         let cap = slots.len();
         let head = self.head;
         let len = self.len;
-        if table::invalid_ring(cap, head, len) {
-            return refused(1, self);
-        }
-        if cap <= len {
+        if table::ring_full(cap, head, len) {
+            if table::invalid_ring(cap, head, len) {
+                return refused(1, self);
+            }
             return refused(6, self);
         }
         let front = slots::slot(cap, head, cap - 1);
@@ -145,10 +145,10 @@ impl Ring {
         let cap = slots.len();
         let head = self.head;
         let len = self.len;
-        if table::invalid_ring(cap, head, len) {
-            return refused(1, self);
-        }
-        if len == 0 {
+        if table::ring_lacks(cap, head, len, 0) {
+            if table::invalid_ring(cap, head, len) {
+                return refused(1, self);
+            }
             return refused(4, self);
         }
         let at = slots::slot(cap, head, len - 1);
@@ -163,10 +163,10 @@ impl Ring {
         let cap = slots.len();
         let head = self.head;
         let len = self.len;
-        if table::invalid_ring(cap, head, len) {
-            return refused(1, self);
-        }
-        if len == 0 {
+        if table::ring_lacks(cap, head, len, 0) {
+            if table::invalid_ring(cap, head, len) {
+                return refused(1, self);
+            }
             return refused(4, self);
         }
         let old = slots[head];
@@ -210,10 +210,10 @@ impl Ring {
         let cap = slots.len();
         let head = self.head;
         let len = self.len;
-        if table::invalid_ring(cap, head, len) {
-            return refused(1, self);
-        }
-        if len <= i {
+        if table::ring_lacks(cap, head, len, i) {
+            if table::invalid_ring(cap, head, len) {
+                return refused(1, self);
+            }
             return refused(3, self);
         }
         let last = len - 1;

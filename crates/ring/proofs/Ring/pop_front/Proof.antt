@@ -14,6 +14,7 @@ pop-front-spec =
     (tie.spec
     (λ c κs. search needs)
     (λ c κs. search needs)
+    (λ c κs. search needs)
     (λ c. search refusals)
     (λ c κs. search needs)
     (λ c. search refusals)
@@ -22,7 +23,7 @@ pop-front-spec =
     (λ c. omega state)
     (λ c. omega state)
     (λ c κs. omega state)
-    (λ c. search needs)
+    (λ c. omega state)
     (λ c κs. search needs)
     (λ c. search needs)
     (λ c. search (pop-front-done, shown)))

@@ -4,6 +4,7 @@ use mathlib.Core.List.{List}
 use Prim.Native.Nat.{ℕ}
 use Rattle.table.specs.Tray.{nowhere}
 use Rattle.table.specs.Does.{gives, refused, bare}
+use Rattle.table.proofs.Stops.{stops}
 use Rattle.table.proofs.Refusals
 use Rattle.vector.specs.declared.Vector.{Vector}
 use Rattle.vector.specs.declared.Answer.{Answer}
@@ -19,6 +20,6 @@ answered-new slots a m e = ap (λ a. seen a slots) e
 pub told : (slots : List ℕ) (a : Answer) (value moves n : ℕ) → a ≡ giving value moves n → seen a slots ≡ gives value moves 0 n slots
 told slots a value moves n e = ap (λ a. seen a slots) e
 
-pub ruleset refusals = (answered, answered-new, Refusals.refusals)
+pub ruleset refusals = (answered, answered-new, stops, Refusals.refusals)
 
-pub ruleset shown = (told, Refusals.tests)
+pub ruleset shown = (told, stops, Refusals.tests)

@@ -25,10 +25,10 @@ impl Vector {
     {
         let cap = slots.len();
         let len = self.len;
-        if table::invalid_vector(cap, len) {
-            return refused(1, self);
-        }
-        if len <= i {
+        if table::vector_lacks(cap, len, i) {
+            if table::invalid_vector(cap, len) {
+                return refused(1, self);
+            }
             return refused(3, self);
         }
         let old = slots[i];
@@ -41,10 +41,10 @@ impl Vector {
     {
         let cap = slots.len();
         let len = self.len;
-        if table::invalid_vector(cap, len) {
-            return refused(1, self);
-        }
-        if cap <= len {
+        if table::vector_full(cap, len) {
+            if table::invalid_vector(cap, len) {
+                return refused(1, self);
+            }
             return refused(6, self);
         }
         slots[len] = x;
@@ -56,10 +56,10 @@ impl Vector {
     {
         let cap = slots.len();
         let len = self.len;
-        if table::invalid_vector(cap, len) {
-            return refused(1, self);
-        }
-        if len == 0 {
+        if table::vector_lacks(cap, len, 0) {
+            if table::invalid_vector(cap, len) {
+                return refused(1, self);
+            }
             return refused(4, self);
         }
         let last = len - 1;
@@ -92,10 +92,10 @@ impl Vector {
     {
         let cap = slots.len();
         let len = self.len;
-        if table::invalid_vector(cap, len) {
-            return refused(1, self);
-        }
-        if len <= i {
+        if table::vector_lacks(cap, len, i) {
+            if table::invalid_vector(cap, len) {
+                return refused(1, self);
+            }
             return refused(3, self);
         }
         let last = len - 1;
@@ -111,10 +111,10 @@ impl Vector {
     {
         let cap = slots.len();
         let len = self.len;
-        if table::invalid_vector(cap, len) {
-            return refused(1, self);
-        }
-        if len <= i {
+        if table::vector_lacks(cap, len, i) {
+            if table::invalid_vector(cap, len) {
+                return refused(1, self);
+            }
             return refused(3, self);
         }
         let last = len - 1;

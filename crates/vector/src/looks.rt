@@ -77,10 +77,10 @@ impl Vector {
     {
         let cap = slots.len();
         let len = self.len;
-        if table::invalid_vector(cap, len) {
-            return refused(1, self);
-        }
-        if len <= i {
+        if table::vector_lacks(cap, len, i) {
+            if table::invalid_vector(cap, len) {
+                return refused(1, self);
+            }
             return refused(3, self);
         }
         done(slots[i], 0, len)

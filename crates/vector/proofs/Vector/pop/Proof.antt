@@ -14,10 +14,11 @@ pop-spec =
     (tie.spec
     (λ c κs. search needs)
     (λ c κs. search needs)
+    (λ c κs. search needs)
     (λ c. search refusals)
     (λ c κs. search needs)
     (λ c. search refusals)
-    (λ c. search needs)
+    (λ c. omega state)
     (λ c. omega state)
     (λ c. omega state)
     (λ c. omega state)

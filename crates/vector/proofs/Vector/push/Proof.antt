@@ -1,6 +1,7 @@
 -- `Vector::push` meets its promise. Assumes nothing.
 use borrow.Author.Needs.{needs}
 use Rattle.table.specs.Does.{does}
+use Rattle.table.proofs.Valid.{state}
 use Rattle.table.proofs.Stores.{vector-push-done}
 use Rattle.vector.proofs.Told.{refusals, shown}
 use Rattle.vector.proofs.Vector.push.Statement.{statement}
@@ -13,12 +14,13 @@ push-spec =
     (tie.spec
     (λ c κs. search needs)
     (λ c κs. search needs)
+    (λ c κs. search needs)
     (λ c. search refusals)
     (λ c κs. search needs)
     (λ c. search refusals)
-    (λ c. search needs)
-    (λ c. search needs)
-    (λ c. search needs)
+    (λ c. omega state)
+    (λ c. omega state)
+    (λ c. omega state)
     (λ c κs. search needs)
     (λ c. search needs)
     (λ c. search (vector-push-done, shown)))

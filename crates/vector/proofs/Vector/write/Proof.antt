@@ -14,6 +14,7 @@ write-spec =
     (tie.spec
     (λ c κs. search needs)
     (λ c κs. search needs)
+    (λ c κs. search needs)
     (λ c. search refusals)
     (λ c κs. search needs)
     (λ c. search refusals)

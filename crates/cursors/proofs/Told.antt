@@ -6,6 +6,7 @@ use Prim.Native.Nat.{ℕ}
 use Rattle.slots.specs.Layout.{Kind}
 use Rattle.table.specs.Tray.{Tray, nowhere}
 use Rattle.table.specs.Does.{refused, refused2, headIn}
+use Rattle.table.proofs.Stops.{stops}
 use Rattle.table.proofs.Refusals
 use Rattle.table.proofs.Looks.{shows}
 use Rattle.table.proofs.Done2.{fills}
@@ -31,6 +32,6 @@ pub told : (t : Tray) (s2 : List ℕ) (a : Taken) (n back : ℕ) → a ≡ takin
     → seenInto a t s2 ≡ fills t n s2 back
 told t s2 a n back e = ap (λ a. seenInto a t s2) e
 
-pub ruleset refusals = (stopped, answered, Refusals.refusals)
+pub ruleset refusals = (stopped, answered, stops, Refusals.refusals)
 
-pub ruleset shown = (started, told, Refusals.tests)
+pub ruleset shown = (started, told, stops, Refusals.tests)

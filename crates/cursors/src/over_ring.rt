@@ -44,18 +44,18 @@ impl Cursor {
         let cap = slots.len();
         let head = over.head;
         let len = over.len;
-        if table::invalid_ring(cap, head, len) {
-            return Step::Invalid(self);
-        }
         let front = self.front;
         let back = self.back;
-        if back < front {
-            return Step::Astray(self);
-        }
-        if len < back {
-            return Step::Astray(self);
-        }
-        if front == back {
+        if table::ring_rests(cap, head, len, front, back) {
+            if table::invalid_ring(cap, head, len) {
+                return Step::Invalid(self);
+            }
+            if back < front {
+                return Step::Astray(self);
+            }
+            if len < back {
+                return Step::Astray(self);
+            }
             return Step::Ended(self);
         }
         let at = slots::slot(cap, head, front);
@@ -74,18 +74,18 @@ impl Cursor {
         let cap = slots.len();
         let head = over.head;
         let len = over.len;
-        if table::invalid_ring(cap, head, len) {
-            return Step::Invalid(self);
-        }
         let front = self.front;
         let back = self.back;
-        if back < front {
-            return Step::Astray(self);
-        }
-        if len < back {
-            return Step::Astray(self);
-        }
-        if front == back {
+        if table::ring_rests(cap, head, len, front, back) {
+            if table::invalid_ring(cap, head, len) {
+                return Step::Invalid(self);
+            }
+            if back < front {
+                return Step::Astray(self);
+            }
+            if len < back {
+                return Step::Astray(self);
+            }
             return Step::Ended(self);
         }
         let at = slots::slot(cap, head, back - 1);

@@ -39,18 +39,18 @@ impl Cursor {
     {
         let cap = slots.len();
         let len = over.len;
-        if table::invalid_vector(cap, len) {
-            return Step::Invalid(self);
-        }
         let front = self.front;
         let back = self.back;
-        if back < front {
-            return Step::Astray(self);
-        }
-        if len < back {
-            return Step::Astray(self);
-        }
-        if front == back {
+        if table::vector_rests(cap, len, front, back) {
+            if table::invalid_vector(cap, len) {
+                return Step::Invalid(self);
+            }
+            if back < front {
+                return Step::Astray(self);
+            }
+            if len < back {
+                return Step::Astray(self);
+            }
             return Step::Ended(self);
         }
         let at = front;
@@ -68,18 +68,18 @@ impl Cursor {
     {
         let cap = slots.len();
         let len = over.len;
-        if table::invalid_vector(cap, len) {
-            return Step::Invalid(self);
-        }
         let front = self.front;
         let back = self.back;
-        if back < front {
-            return Step::Astray(self);
-        }
-        if len < back {
-            return Step::Astray(self);
-        }
-        if front == back {
+        if table::vector_rests(cap, len, front, back) {
+            if table::invalid_vector(cap, len) {
+                return Step::Invalid(self);
+            }
+            if back < front {
+                return Step::Astray(self);
+            }
+            if len < back {
+                return Step::Astray(self);
+            }
             return Step::Ended(self);
         }
         let at = back - 1;

@@ -1,4 +1,4 @@
--- `cursors::Cursor::ring_step_back` meets its promise. Assumes nothing.
+-- `Cursor::ring_step_back` meets its promise. Assumes nothing.
 use borrow.Author.Needs.{needs}
 use Rattle.table.specs.Does.{does}
 use Rattle.table.proofs.Valid.{state}
@@ -13,13 +13,14 @@ ring-step-back-spec =
     tie.close
     (tie.spec
     (λ c κs. search needs)
+    (λ c κs. search needs)
     (λ c. search refusals)
     (λ c. search refusals)
     (λ c. search refusals)
     (λ c. search refusals)
-    (λ c. search needs)
+    (λ c. omega state)
     (λ c κs. omega state)
     (λ c. search needs)
     (λ c. search needs)
-    (λ c. search needs)
+    (λ c. omega state)
     (λ c. search (step-back-done, shown)))

@@ -1,4 +1,4 @@
--- `cursors::Cursor::ring_step_front` meets its promise. Assumes nothing.
+-- `Cursor::ring_step_front` meets its promise. Assumes nothing.
 use borrow.Author.Needs.{needs}
 use Rattle.table.specs.Does.{does}
 use Rattle.table.proofs.Valid.{state}
@@ -13,6 +13,7 @@ ring-step-front-spec =
     tie.close
     (tie.spec
     (λ c κs. search needs)
+    (λ c κs. search needs)
     (λ c. search refusals)
     (λ c. search refusals)
     (λ c. search refusals)
@@ -20,5 +21,5 @@ ring-step-front-spec =
     (λ c κs. omega state)
     (λ c. search needs)
     (λ c. search needs)
-    (λ c. search needs)
+    (λ c. omega state)
     (λ c. search (step-front-done, shown)))

@@ -1,4 +1,4 @@
--- `cursors::Cursor::vector_step_front` meets its promise. Assumes nothing.
+-- `Cursor::vector_step_front` meets its promise. Assumes nothing.
 use borrow.Author.Needs.{needs}
 use Rattle.table.specs.Does.{does}
 use Rattle.table.proofs.Valid.{state}
@@ -13,11 +13,12 @@ vector-step-front-spec =
     tie.close
     (tie.spec
     (λ c κs. search needs)
+    (λ c κs. search needs)
     (λ c. search refusals)
     (λ c. search refusals)
     (λ c. search refusals)
     (λ c. search refusals)
     (λ c. omega state)
     (λ c. omega state)
-    (λ c. search needs)
+    (λ c. omega state)
     (λ c. search (vector-step-front-done, shown)))

@@ -47,13 +47,13 @@ macro_rules! side {
     }};
 }
 
-const SLOT: &str = "the slot's division, which request 06 takes away, and the test of the state, which Rust's type makes unneeded";
-const STATE: &str = "the test of the state, which Rust's type makes unneeded; the compiler joins its comparisons by flags where branches would be cheaper";
-const COPY: &str = "nothing tells the compiler that two lent runs do not overlap, so a copy between them is a loop of 16-byte registers where Rust calls memcpy";
-const ZERO: &str = "paper 01 has every freed slot hold 0, which Rust leaves as it was; and the copy is no memcpy (see vector extend)";
-const CLONE: &str = "the slot's divisions, which request 06 takes away; and the copy is a loop of 16-byte registers, whose speed depends on where it lies in the archive: with the slot by comparison it can come out level at 4,096";
-const ZERO_SLOT: &str = "paper 01 has every freed slot hold 0, which Rust leaves as it was; and the slot's division hides the run from the compiler, which calls memset once it is gone (request 06)";
-const APPEND: &str = "the slots that T frees are set to 0, as paper 01 has it, and the copy is no memcpy (see vector extend); the slot's division (request 06) hides the run of zeros";
+const SLOT: &str = "the slot's division, which request 06 takes away; then the one test before the work, which asks of a state what Rust's type has settled: two or three comparisons more";
+const STATE: &str = "the one test before the work, which asks of a state what Rust's type has settled: one or two comparisons more; where there are two in all, the compiler joins them by flags";
+const COPY: &str = "the test of the state and of the room; the copy is one memmove, where Rust calls memcpy";
+const ZERO: &str = "paper 01 has every freed slot hold 0: one memset more, since Rust leaves it as it was";
+const CLONE: &str = "the slot's divisions, which request 06 takes away, and the test of two states; the copy is a memmove for each run of slots";
+const ZERO_SLOT: &str = "paper 01 has every freed slot hold 0: a memset for each run of slots, where Rust touches none; and the slot's division, which request 06 takes away";
+const APPEND: &str = "the slots that T frees are set to 0, as paper 01 has it: a memset for each run, where Rust touches none; and the slot's divisions, which request 06 takes away";
 const SMALL: &str = "the test of the state and the words of the answer, beside a shift of a few entries";
 
 pub fn rows() -> Vec<Row> {

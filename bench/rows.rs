@@ -48,6 +48,7 @@ macro_rules! side {
 }
 
 const SLOT: &str = "the slot's division, which request 06 takes away; then the one test before the work, which asks of a state what Rust's type has settled: two or three comparisons more";
+const ENDS: &str = "the slot's division, which request 06 takes away; then the freed slot, which paper 01 has set to 0 and Rust leaves as it was, and the one test before the work, which asks of a state what Rust's type has settled";
 const STATE: &str = "the one test before the work, which asks of a state what Rust's type has settled: one or two comparisons more; where there are two in all, the compiler joins them by flags";
 const COPY: &str = "the test of the state and of the room; the copy is one memmove, where Rust calls memcpy";
 const ZERO: &str = "paper 01 has every freed slot hold 0: one memset more, since Rust leaves it as it was";
@@ -58,8 +59,8 @@ const SMALL: &str = "the test of the state and the words of the answer, beside a
 
 pub fn rows() -> Vec<Row> {
     vec![
-        row!("push_back + pop_front", SLOT, theirs, Ring, [0], wrapped, |r, n, spots, k| ring_queue(r, k)),
-        row!("push_front + pop_back", SLOT, theirs, Ring, [0], wrapped, |r, n, spots, k| ring_queue_back(r, k)),
+        row!("push_back + pop_front", ENDS, theirs, Ring, [0], wrapped, |r, n, spots, k| ring_queue(r, k)),
+        row!("push_front + pop_back", ENDS, theirs, Ring, [0], wrapped, |r, n, spots, k| ring_queue_back(r, k)),
         row!("read", SLOT, theirs, Ring, [0], wrapped, |r, n, spots, k| ring_read(r, n, &spots, k)),
         row!("insert + remove", SLOT, theirs, Ring, [0], wrapped, |r, n, spots, k| ring_shift(r, n, &spots, k)),
         row!("clear + resize", ZERO_SLOT, theirs, Ring, [0], wrapped, |r, n, spots, k| ring_refill(r, n, k)),

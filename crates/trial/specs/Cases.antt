@@ -1,4 +1,4 @@
--- What each operation of `replay` is in the table, by its number in docs/REPLAY.md. Assumes nothing.
+-- What each operation of `replay` is in the table, by its number, which docs/REPLAY.md gives in hexadecimal digits: 16 is its 10. Assumes nothing.
 use Prim.Native.Nat.{ℕ}
 use mathlib.Core.Bool.{cond}
 use mathlib.Core.List.{List, [], _∷_}

@@ -1,4 +1,4 @@
-// The calls on a ring, by their numbers in docs/REPLAY.md. A number that stands for none is answered 8.
+// The calls on a ring, by their numbers, which docs/REPLAY.md gives in hexadecimal digits. A number that stands for none is answered 8.
 use ring::Answer;
 use ring::Ring;
 ghost use mathlib.Core.Path.{_≡_};

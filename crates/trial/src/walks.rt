@@ -1,4 +1,4 @@
-// The calls of a cursor, by their numbers in docs/REPLAY.md: what they answer as number, value and cursor. A number that stands for none is answered 8.
+// The calls of a cursor, by their numbers, which docs/REPLAY.md gives in hexadecimal digits: what they answer as number, value and cursor. A number that stands for none is answered 8.
 use cursors::Begun;
 use cursors::Cursor;
 use cursors::Step;

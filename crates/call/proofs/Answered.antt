@@ -1,10 +1,10 @@
 -- The answer's line, put number by number, and its length; and what each thing that a line can say comes to. Assumes nothing.
-use mathlib.Core.Path.{_≡_, refl, sym, ap, _∙_}
+use mathlib.Core.Path.{_≡_, sym, ap, _∙_}
 use mathlib.Core.List.{List, [], _∷_, _++_, append-nil}
-use Prim.Native.Nat.{ℕ, _+_, _≤_}
+use Prim.Native.Nat.{ℕ, _+_}
 use native.Mathlib.Omega.{arith}
-use lib.ListN.{length, set, drop, replicate, length-append, length-replicate, drop-of-length-le}
-use Rattle.hex.specs.Hex.{hex, lf, atStart}
+use lib.ListN.{length, set, replicate, length-append, drop-of-length-le}
+use Rattle.hex.specs.Hex.{hex, lf}
 use Rattle.hex.specs.Put.{put}
 use Rattle.hex.proofs.Puts.{put-one, put-join, put-start, length-hex}
 use Rattle.table.specs.World.{World}

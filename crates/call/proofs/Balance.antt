@@ -1,6 +1,6 @@
 -- Demand 3 holds of every sequence of lines: each line is one of our calls on the four containers, or none. Assumes nothing.
 use mathlib.Core.Path.{_≡_, refl, sym, ap, _∙_}
-use mathlib.Core.Bool.{Bool, true, false}
+use mathlib.Core.Bool.{true, false}
 use mathlib.Core.List.{List, [], _∷_, _++_}
 use Prim.Native.Nat.{ℕ, _+_, _≤_, _<_}
 use native.Mathlib.Omega.{arith}
@@ -10,7 +10,7 @@ use Rattle.table.specs.Tray.{Tray, invalid}
 use Rattle.table.specs.Calls.{new}
 use Rattle.table.specs.Does.{Outcome2, does, does2, made}
 use Rattle.table.specs.Ledger.{modelled, entered, handed, dropped}
-use Rattle.table.specs.World.{World, Event, at, Ours, step, AllOurs, run, lines, held, standingAll}
+use Rattle.table.specs.World.{World, Event, at, Ours, AllOurs, run, lines, held, standingAll}
 use Rattle.table.proofs.Demand3.{demand-3, models}
 use Rattle.table.proofs.StaysValid.{stays-valid, first-stays-valid, second-stays-valid, made-valid}
 use Rattle.call.specs.declared.lines.RingOp.{RingOp}
@@ -18,7 +18,7 @@ use Rattle.call.specs.declared.lines.VectorOp.{VectorOp}
 use Rattle.call.specs.declared.lines.Call.{Call}
 use Rattle.call.specs.declared.lines.Said.{Said}
 use Rattle.call.specs.Lines.{said}
-use Rattle.call.specs.Acts.{Act, one, two, hasAct, ringAct, vectorAct, actDoes, eventAt, event, Acts, acts, free, makings, begun}
+use Rattle.call.specs.Acts.{Act, one, two, hasAct, ringAct, vectorAct, actDoes, eventAt, event, Acts, acts, free, begun}
 use Rattle.call.specs.Answers.{tellsOf, tells}
 use Rattle.call.specs.Runs.{after, eventsOf, calls, happened}
 use Rattle.call.proofs.Doing.{four, on-0, on-1, on-2, on-3}

@@ -2,19 +2,18 @@
 use mathlib.Core.Path.{_≡_, refl, sym, ap, _∙_, subst}
 use mathlib.Core.Bool.{Bool, true, false, cond}
 use mathlib.Core.List.{List, [], _∷_, _++_, append-assoc, append-nil}
-use Prim.Native.Nat.{ℕ, suc, _+_, _≤_, _<_, min}
+use Prim.Native.Nat.{ℕ, _+_, _≤_, _<_, min}
 use native.Mathlib.Numerals.{add-one}
 use native.Mathlib.Omega.{arith}
 use borrow.Author.Tests.{eq-eqb, ne-eqb, ltb-true, ltb-false}
 use lib.Dec.{eqb, ltb}
-use lib.ListN.{length, take, set, replicate, length-append, length-take, length-set}
+use lib.ListN.{length, take, set, length-append, length-take, length-set}
 use lib.Seq.{take-all, take-append-le, take-suc-set}
 use Rattle.hex.specs.Hex.{lf}
 use Rattle.table.specs.World.{World}
-use Rattle.call.specs.declared.lines.Said.{Said}
 use Rattle.call.specs.Lines.{said}
 use Rattle.call.specs.Answers.{Tells, tellsOf, tells}
-use Rattle.call.specs.Feeds.{Reader, Midway, Feeds, fresh, answers, takes, feeds, isEmpty, whole, Kept, keeping, ends}
+use Rattle.call.specs.Feeds.{Reader, Midway, Feeds, fresh, takes, feeds, isEmpty, whole, Kept, keeping, ends}
 use Rattle.call.specs.Runs.{linesOf, finished, answered, after}
 
 -- a run fed, and then another

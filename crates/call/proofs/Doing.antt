@@ -1,5 +1,5 @@
 -- What an operation does to its container and the other, and what a call then does to the four: each is the table's own. Assumes nothing.
-use mathlib.Core.Path.{_≡_, refl, sym, ap, _∙_}
+use mathlib.Core.Path.{_≡_, sym, ap, _∙_}
 use mathlib.Core.Bool.{Bool, true, false}
 use mathlib.Core.List.{List, [], _∷_}
 use Prim.Native.Nat.{ℕ}
@@ -8,7 +8,7 @@ use Rattle.table.specs.Tray.{Tray}
 use Rattle.table.specs.Calls as table
 use Rattle.table.specs.Calls.{new}
 use Rattle.table.specs.Does.{Outcome2, does, does2, made}
-use Rattle.table.specs.World.{Container, World}
+use Rattle.table.specs.World.{World}
 use Rattle.ring.specs.Seen as rings
 use Rattle.vector.specs.Seen as vectors
 use Rattle.ring.specs.declared.Answer as ringAnswers

@@ -1,17 +1,17 @@
 -- Bytes fed one by one into a text: what one byte leaves, one byte more, and the whole run. Assumes nothing.
 use mathlib.Core.Path.{_≡_, refl, sym, ap, _∙_}
-use mathlib.Core.Bool.{Bool, true, false, cond}
+use mathlib.Core.Bool.{Bool, true, false}
 use mathlib.Core.List.{List, [], _∷_, _++_, append-nil}
 use Prim.Native.Nat.{ℕ, _+_, _*_, _-_, _/_, _≤_, _<_}
 use native.Mathlib.Numerals.{add-one}
 use native.Mathlib.Omega.{arith}
 use borrow.Author.Tests.{eq-eqb, ne-eqb, lt-ltb, le-ltb}
 use lib.Dec.{eqb}
-use lib.ListN.{length, getD, set, take, drop, replicate, length-append, length-take, drop-of-length-le}
+use lib.ListN.{length, getD, set, take, drop, replicate, length-append, drop-of-length-le}
 use lib.Seq.{drop-cons, take-all, take-length}
 use Rattle.hex.specs.Hex.{lf, atStart}
 use Rattle.hex.specs.Put.{put}
-use Rattle.hex.proofs.Puts.{put-one, put-join, put-start}
+use Rattle.hex.proofs.Puts.{put-join, put-start}
 use Rattle.table.specs.World.{World}
 use Rattle.call.specs.declared.answers.Told.{Told}
 use Rattle.call.specs.declared.feeds.State.{State}
@@ -20,7 +20,7 @@ use Rattle.call.specs.declared.feeds.Fed.{Fed}
 use Rattle.call.specs.declared.feeds.Finish.{Finish}
 use Rattle.call.specs.Seen
 use Rattle.call.specs.Answers.{Tells, tells, toldSeen}
-use Rattle.call.specs.Feeds.{Midway, Feeds, Kept, fresh, answers, takes, feeds, keeping, ends, midway, Ends, endsInto, endedSeen, Fills, fillsAll, room, fills, fedSeen, Puts, puts, stepSeen}
+use Rattle.call.specs.Feeds.{Midway, Feeds, Kept, fresh, takes, feeds, keeping, ends, midway, Ends, endsInto, endedSeen, Fills, fillsAll, room, fills, fedSeen, Puts, puts, stepSeen}
 use Rattle.call.proofs.Answered.{length-tells}
 
 -- a byte of a line is kept, or there is no room for it

@@ -1,8 +1,6 @@
 -- One answer: any two results that meet a public function's generated contract on the same arguments are the same, and so are the texts that they
 -- come with. Assumes nothing.
 use mathlib.Core.Path.{_≡_, refl, sym, ap, _∙_}
-use mathlib.Core.List.{List}
-use Prim.Native.Nat.{ℕ}
 use contract.Lifetimes.{Lfts}
 use denote.Ref.{now}
 use denote.Triple.Clauses.{AtExit}
@@ -13,17 +11,11 @@ use Rattle.table.specs.World.{World, at}
 use Rattle.call.specs.declared.acts.HeldRing.{HeldRing}
 use Rattle.call.specs.declared.acts.HeldVector.{HeldVector}
 use Rattle.call.specs.declared.acts.Trays.{Trays}
-use Rattle.call.specs.declared.acts.RingDid.{RingDid}
-use Rattle.call.specs.declared.acts.VectorDid.{VectorDid}
-use Rattle.call.specs.declared.acts.Acted.{Acted}
-use Rattle.call.specs.declared.answers.Told.{Told}
 use Rattle.call.specs.declared.feeds.State.{State}
-use Rattle.call.specs.declared.feeds.Finish.{Finish}
-use Rattle.call.specs.declared.feeds.Fed.{Fed}
 use Rattle.call.specs.Seen.{world, ringsSeen, vectorsSeen, actedSeen}
 use Rattle.call.specs.Acts.{Acts}
 use Rattle.call.specs.Answers.{Tells, toldSeen}
-use Rattle.call.specs.Feeds.{Midway, Kept, midway, Ends, endedSeen, Fills, fedSeen}
+use Rattle.call.specs.Feeds.{Midway, Kept, midway, Ends, endedSeen, Fills}
 use Rattle.call.proofs.lines as lines·fn
 use Rattle.call.proofs.acts as acts·fn
 use Rattle.call.proofs.answers as answers·fn

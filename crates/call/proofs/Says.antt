@@ -1,12 +1,12 @@
 -- What a line says, from its fields: a number that stands in no table is unknown, and a value has 32 bits. Assumes nothing.
-use mathlib.Core.Path.{_≡_, refl, sym, ap, _∙_}
-use mathlib.Core.Bool.{Bool, true, false, cond, _&&_}
+use mathlib.Core.Path.{_≡_, refl, sym, _∙_}
+use mathlib.Core.Bool.{Bool, true, false}
 use mathlib.Core.List.{List, [], _∷_}
-use Prim.Native.Nat.{ℕ, zero, suc, _+_, _^_, _≤_, _<_}
+use Prim.Native.Nat.{ℕ, _^_, _<_}
 use native.Mathlib.Omega.{arith}
 use borrow.Author.Tests.{eq-eqb, ne-eqb}
 use lib.ListN.{length, take, drop, length-take, length-drop}
-use Rattle.hex.specs.Hex.{isDigit, areDigits}
+use Rattle.hex.specs.Hex.{areDigits}
 use Rattle.call.specs.declared.lines.Said.{Said}
 use Rattle.call.specs.Lines.{under, operation, container, position, value, callSays, said}
 

@@ -1,6 +1,6 @@
 -- What a call of `tray` is in the table: a call on one container or on two, the event that it makes, and what is answered of it. Assumes nothing.
 use Prim.Native.Nat.{ℕ}
-use mathlib.Core.Bool.{Bool, true, false, cond}
+use mathlib.Core.Bool.{Bool, cond}
 use mathlib.Core.List.{List, [], _∷_}
 use lib.ListN.{replicate}
 use Rattle.slots.specs.Layout.{Kind, ring, vector}
@@ -91,10 +91,6 @@ named (Call.Vector second op) = cond second 3 2
 abbrev pub other : Call → ℕ
 other (Call.Ring second op) = cond second 0 1
 other (Call.Vector second op) = cond second 2 3
-
-abbrev pub kindOf : Call → Kind
-kindOf (Call.Ring second op) = ring
-kindOf (Call.Vector second op) = vector
 
 abbrev pub actOf : Call → Act
 actOf (Call.Ring second op) = ringAct op

@@ -1,6 +1,6 @@
 -- One answer: any two words that meet an exported call's generated contract on the same arguments are the same, and so are the numbers of the
 -- state and the contents of the slots that they come with. Assumes nothing.
-use Prim.Native.Nat.{ℕ, _/_, _%_}
+use Prim.Native.Nat.{ℕ}
 use native.Mathlib.Omega.{arith}
 use mathlib.Core.Path.{_≡_, sym, ap, _∙_}
 use contract.Lifetimes.{Lfts}

@@ -1,13 +1,10 @@
 -- A word made of an answer says that answer, and the moves of every call fit it. Assumes nothing.
 use mathlib.Core.Path.{_≡_, refl, sym, ap, _∙_}
-use mathlib.Core.Bool.{Bool, true, false, cond}
-use mathlib.Core.List.{List}
+use mathlib.Core.Bool.{Bool, true, false}
 use Prim.Native.Nat.{ℕ, zero, suc, _+_, _*_, _/_, _%_, _≤_, _<_}
 use native.Mathlib.Nat.{le-trans}
 use native.Mathlib.Omega.{arith}
 use lib.Arith.{digits-div, digits-mod}
-use lib.ListN.{length, getD, set, length-set}
-use lib.Seq.{getD-set-same, getD-set-other}
 use Rattle.slots.specs.Count.{one, tally}
 use Rattle.slots.specs.Layout.{Kind, ring, vector, place}
 use Rattle.slots.specs.Moves.{Carried, elsewhere, moved}
@@ -19,9 +16,7 @@ use Rattle.table.proofs.Refusals.{either}
 use Rattle.table.proofs.Done.{done-is, many, as-it-was}
 use Rattle.table.proofs.Looks.{look-done}
 use Rattle.table.proofs.Moves.{moves-of2}
-use Rattle.table.proofs.Valid.{fit, ring-facts, vector-facts}
-use Rattle.ring.specs.declared.Answer.{Answer}
-use Rattle.ring.specs.Seen.{seen}
+use Rattle.table.proofs.Valid.{ring-facts, vector-facts}
 use Rattle.exports.specs.Heard.{Worded, heardAt, heard, heard2}
 
 -- the digits of a word

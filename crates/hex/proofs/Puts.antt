@@ -5,7 +5,7 @@ use Prim.Native.Nat.{ℕ, zero, suc, _+_, _-_, _/_, _%_, _≤_, _<_}
 use native.Mathlib.Nat.{not-suc-le-zero, le-of-suc-le-suc}
 use native.Mathlib.Numerals.{add-one}
 use native.Mathlib.Omega.{arith}
-use lib.ListN.{length, set, drop, length-set, length-append}
+use lib.ListN.{length, set, length-set, length-append}
 use Rattle.hex.specs.Hex.{digit, hex, atStart}
 use Rattle.hex.specs.Put.{put}
 

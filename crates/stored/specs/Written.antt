@@ -1,12 +1,11 @@
 -- What the writer of the stored form gives: the answer with the container as it was, and the text afterwards. Assumes nothing.
 use Prim.Native.Nat.{ℕ}
-use mathlib.Core.Bool.{Bool}
 use mathlib.Core.List.{List, [], _∷_}
 use lib.ListN.{length}
 use lib.Dec.{ltb}
 use Rattle.slots.specs.Layout.{Kind}
 use Rattle.table.specs.Tray.{Tray, cap, invalid, nowhere}
-use Rattle.table.specs.Table.{Refusal, firstInvalid, full}
+use Rattle.table.specs.Table.{firstInvalid, full}
 use Rattle.table.specs.Does.{Outcome, refused, gives, firstRefusal}
 use Rattle.hex.specs.Hex.{atStart}
 use Rattle.stored.specs.Form.{form, size}

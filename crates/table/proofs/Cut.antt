@@ -1,19 +1,19 @@
 -- What truncate, resize, clear and extend_from_slice do where they are done, as the proof of each function finds it: o is what is seen, and each
 -- premise a fact that the code's steps tell. Assumes nothing.
-use mathlib.Core.Path.{_≡_, refl, ap, _∙_}
+use mathlib.Core.Path.{_≡_, refl}
 use mathlib.Core.Bool.{false}
-use mathlib.Core.List.{List, [], _++_, append-nil}
+use mathlib.Core.List.{List, _++_, append-nil}
 use Prim.Native.Nat.{ℕ, _+_, _-_, _≤_, _<_}
 use native.Mathlib.Omega.{arith}
 use borrow.Author.Tests.{le-ltb}
 use lib.ListN.{length, take, replicate, length-take, length-append, length-replicate}
 use lib.Seq.{take-all}
-use Rattle.slots.specs.Layout.{Kind, vector, place, itself, relaid, pos}
+use Rattle.slots.specs.Layout.{Kind, place}
 use Rattle.slots.specs.Moves.{moved, kept}
 use Rattle.slots.specs.Shift.{Filled}
 use Rattle.slots.specs.Copy.{Laid}
 use Rattle.slots.proofs.Placing.{placing}
-use Rattle.slots.proofs.Moves.{moved-stay, moved-kept, moved-none}
+use Rattle.slots.proofs.Moves.{moved-kept, moved-none}
 use Rattle.slots.proofs.Fills.{fill-none, relaid-take}
 use Rattle.slots.proofs.Lays.{relaid-append, relaid-clear, fill-lays}
 use Rattle.table.specs.Tray.{Tray, cap, list, invalid}

@@ -5,14 +5,13 @@ use mathlib.Core.Path.{_≡_, refl, sym, _∙_, ap, subst⁻¹}
 use mathlib.Core.List.{List, [], _∷_, _++_}
 use native.Mathlib.Nat.{not-suc-le-zero, le-of-suc-le-suc}
 use native.Mathlib.Omega.{arith}
-use lib.ListN.{length, set, getD, length-set}
+use lib.ListN.{length, set, length-set}
 use lib.Seq.{getD-set-other}
-use Rattle.slots.specs.Count.{count}
 use Rattle.slots.specs.Layout.{Kind}
 use Rattle.table.specs.Tray.{Tray, list}
 use Rattle.table.specs.Table.{after, after2, begins}
-use Rattle.table.specs.Does.{Outcome2, does, does2, made, bare}
-use Rattle.table.specs.Ledger.{Flow, none, flow, flow2, flowMade, ifDone, Lists, listAt, setTwo, listsAfter, flows, modelled, entered, handed, dropped}
+use Rattle.table.specs.Does.{Outcome2, does, does2, made}
+use Rattle.table.specs.Ledger.{ifDone, Lists, listAt, setTwo, listsAfter, flows, modelled, entered, handed, dropped}
 use Rattle.table.specs.World.{Container, World, at, Event, make, on, onTwo, Ours, step, AllOurs, run, line, lines, holds, held, standing, standingAll}
 use Rattle.table.proofs.Keeps.{Good, container, Balanced, one-keeps, make-keeps, two-keep, bare-list, bare-none}
 

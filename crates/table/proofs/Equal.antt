@@ -1,6 +1,6 @@
 -- The two questions on two containers, ring sameness and vector equality: what the code's comparison tells is what `equalLists` says, and the answer
 -- leaves both as they were. Assumes nothing.
-use mathlib.Core.Path.{_≡_, refl, sym, ap, _∙_}
+use mathlib.Core.Path.{_≡_, refl, _∙_}
 use mathlib.Core.Bool.{Bool, true, false, cond, _&&_}
 use mathlib.Core.List.{List, [], _∷_}
 use Prim.Native.Nat.{ℕ}

@@ -6,7 +6,7 @@ use mathlib.Core.List.{List}
 use lib.ListN.{length, getD}
 use Rattle.slots.specs.Layout.{Kind, ring, vector, place, pos}
 use Rattle.slots.specs.Moves.{moved}
-use Rattle.slots.proofs.Relaid.{length-relaid, relaid-entry, relaid-emptied, relaid-untouched}
+use Rattle.slots.proofs.Relaid.{relaid-entry, relaid-emptied, relaid-untouched}
 use Rattle.table.specs.Tray.{Tray, cap, list}
 use Rattle.table.specs.Calls.{Call, Call2, Making}
 use Rattle.table.specs.Table.{Row, Row2, after, after2, begins, makes}
@@ -22,7 +22,6 @@ pub record Afterwards (k : Kind) (t : Tray) (l : List ℕ) (h : ℕ) (now : Tray
   pub listed : list k now ≡ l
   pub head : now .head ≡ h
   pub len : now .len ≡ length l
-  pub as-many : cap now ≡ cap t
   pub entry : (s : ℕ) → s < cap t → pos k (cap t) (now .head) s < length l → getD (now .slots) s 0 ≡ getD l (pos k (cap t) (now .head) s) 0
   pub emptied : (s : ℕ) → s < cap t → length l ≤ pos k (cap t) (now .head) s → pos k (cap t) (t .head) s < t .len → getD (now .slots) s 0 ≡ 0
   pub untouched : (s : ℕ) → s < cap t → length l ≤ pos k (cap t) (now .head) s → t .len ≤ pos k (cap t) (t .head) s
@@ -38,7 +37,6 @@ relay-after k t l h left = record {
   listed = relay-lists k t l h left;
   head = refl;
   len = refl;
-  as-many = length-relaid _ _ _ _ _;
   entry = relaid-entry _ _ (t .len) l (t .slots);
   emptied = relaid-emptied _ _ (t .len) l (t .slots);
   untouched = relaid-untouched _ _ (t .len) l (t .slots);

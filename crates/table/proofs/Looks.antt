@@ -6,8 +6,8 @@ use Prim.Native.Nat.{ℕ, _-_, _≤_, _<_}
 use borrow.Author.Tests.{lt-leb, le-ltb, eq-eqb, ne-eqb}
 use lib.ListN.{getD}
 use Rattle.slots.specs.Layout.{Kind, vector, place}
-use Rattle.table.specs.Tray.{Tray, cap, list, invalid, Cursor, nowhere}
-use Rattle.table.specs.Calls.{Look, look, len, isEmpty, read, reserve, tryReserve, tryReserveExact, range, iter, intoIter}
+use Rattle.table.specs.Tray.{Tray, cap, list, invalid, Cursor}
+use Rattle.table.specs.Calls.{Look, look, len, isEmpty, read, reserve, range, iter, intoIter}
 use Rattle.table.specs.Table.{lookRow}
 use Rattle.table.specs.Does.{Outcome, gives, headIn, rowOf, does}
 use Rattle.table.proofs.Refusals.{Clear, inside}
@@ -41,13 +41,6 @@ module _ (k : Kind) (t : Tray) (o : Outcome) (ok : invalid k t ≡ false) where
   -- room for m more
   pub reserve-done : (m : ℕ) → m ≤ cap t - t .len → o ≡ gives 0 0 (headIn k (t .head)) (t .len) (t .slots) → o ≡ does k (look (reserve m)) t
   reserve-done m room eo = look-done (reserve m) (le-ltb _ _ room, tt) eo
-
-  pub try-reserve-done : (m : ℕ) → m ≤ cap t - t .len → o ≡ gives 0 0 (headIn k (t .head)) (t .len) (t .slots) → o ≡ does k (look (tryReserve m)) t
-  try-reserve-done m room eo = look-done (tryReserve m) (le-ltb _ _ room, tt) eo
-
-  pub try-exact-done : (m : ℕ) → m ≤ cap t - t .len → o ≡ gives 0 0 (headIn k (t .head)) (t .len) (t .slots)
-      → o ≡ does k (look (tryReserveExact m)) t
-  try-exact-done m room eo = look-done (tryReserveExact m) (le-ltb _ _ room, tt) eo
 
   pub range-done : (a b : ℕ) → a ≤ b → b ≤ t .len → o ≡ gives 0 0 (headIn k (t .head)) (t .len) (t .slots) → o ≡ does k (look (range a b)) t
   range-done a b le fits eo = look-done (range a b) (inside a b (t .len) le fits, tt) eo

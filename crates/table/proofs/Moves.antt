@@ -200,9 +200,6 @@ moves-of k call t of =
     (λ r. sym (if-refused r (movesIn k (t .len) call) 0))
     (row-moves k t call of)
 
-pub moves-done : (k : Kind) (call : Call) (t : Tray) → has call k ≡ true → does k call t .number ≡ 0 → does k call t .moves ≡ movesIn k (t .len) call
-moves-done k call t of e = rw e at (moves-of k call t of)
-
 -- A call on two moves nothing in the first, and a making nothing at all.
 pub moves-of2 : (k k2 : Kind) (call : Call2) (t t2 : Tray) → does2 k k2 call t t2 .moves ≡ 0
 unfolding does2

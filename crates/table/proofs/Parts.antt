@@ -68,12 +68,6 @@ module _ (t : Tray) (a b : ℕ) where
   pub lends-astray : Astray a b (t .len) → lends a b t ≡ noPart
   lends-astray out = rw (or-right (invalid vector t) _ (outside a b (t .len) out))
 
-  pub lends-crossed : b < a → lends a b t ≡ noPart
-  lends-crossed gt = lends-astray (λ w. omega arith)
-
-  pub lends-past : t .len < b → lends a b t ≡ noPart
-  lends-past gt = lends-astray (λ w. omega arith)
-
   -- THE QUESTION. Its number and the part, together.
   pub data Question : (number : ℕ) → Part → Type 0 where
     lent : invalid vector t ≡ false → a ≤ b → b ≤ t .len → Question 0 (asked a b)
@@ -91,21 +85,6 @@ module _ (t : Tray) (a b : ℕ) where
           (λ (w : (a ≤ b) × (b ≤ t .len)). rw (e, inside a b (t .len) (w .0) (w .1)) (lent e (w .0) (w .1)))
           (λ (out : Astray a b (t .len)). rw (e, outside a b (t .len) out) (astray e out))
           (within? a b (t .len))
-
-  -- so 0 is answered exactly where the part is the one asked for, by a test that found it so
-  pub lent-at-0 : does vector (look (range a b)) t .number ≡ 0 → (invalid vector t || not (within a b (t .len)) ≡ false) × (lends a b t ≡ asked a b)
-  lent-at-0 e = go (rw e at question)
-    where
-      go : {p : Part} → Question 0 p → (invalid vector t || not (within a b (t .len)) ≡ false) × (p ≡ asked a b)
-      go (lent ok le fits) = (rw (ok, inside a b (t .len) le fits), refl)
-
-  pub at-0-lent : invalid vector t || not (within a b (t .len)) ≡ false → does vector (look (range a b)) t .number ≡ 0
-  at-0-lent e = go question
-    where
-      go : {m : ℕ} {p : Part} → Question m p → m ≡ 0
-      go (lent ok le fits) = refl
-      go (unfit bad) = let z : true ≡ false = rw bad at e in cc
-      go (astray ok out) = let z : true ≡ false = rw (ok, outside a b (t .len) out) at e in cc
 
   -- the part lies inside the slots
   pub part-inside : lends a b t .start + lends a b t .count ≤ cap t

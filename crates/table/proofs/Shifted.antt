@@ -11,7 +11,7 @@ use lib.ListN.{length, getD, set, take, length-set, length-take}
 use Rattle.slots.specs.Layout.{Kind, ring, vector, place, itself, slotOf}
 use Rattle.slots.specs.Moves.{moved, swapped}
 use Rattle.slots.specs.Shift.{MovedDown, MovedUp}
-use Rattle.slots.proofs.Placing.{one-slot, slot-zero}
+use Rattle.slots.proofs.Placing.{slot-zero}
 use Rattle.slots.proofs.Relaid.{relaid-swap}
 use Rattle.slots.proofs.Moves.{swap-moves-none, swap-moves-one}
 use Rattle.slots.proofs.Shifts.{insert-back, remove-back, insert-front, remove-front}

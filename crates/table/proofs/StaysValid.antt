@@ -1,11 +1,11 @@
 -- A valid container stays valid, whatever call is made on it, done or refused: what a done call leaves fits the slots. A making on at most 4,096
--- slots gives a valid container; on more, and on an invalid container, all is refused. Assumes nothing.
+-- slots gives a valid container; on more it is refused. Assumes nothing.
 use Prim.Native.Nat.{ℕ, _-_, _≤_, _<_}
 use mathlib.Core.Path.{_≡_}
 use mathlib.Core.Bool.{true, false}
 use mathlib.Core.List.{List}
 use native.Mathlib.Omega.{arith}
-use borrow.Author.Tests.{lt-ltb, le-ltb, le-leb, lt-leb, eq-eqb}
+use borrow.Author.Tests.{lt-ltb, le-ltb, le-leb, eq-eqb}
 use lib.Dec.{leb}
 use lib.ListN.{length}
 use mathlib.Core.Logic.{⊎-elim}
@@ -17,7 +17,7 @@ use Rattle.table.specs.Calls.{Call, Call2, Making, new, withCapacity, fr
 use Rattle.table.specs.Table.{row, row2, after, after2, begins, makes}
 use Rattle.table.specs.Does.{Outcome, refused, headIn, relay, done, rowOf, refusalsOf, does, bare, refusalsMade, made}
 use Rattle.table.specs.Does.{Outcome2, refused2, done2, rowOf2, refusalsOf2, does2}
-use Rattle.table.proofs.Refusals.{Clear, either, both-hold, not-fails, not-holds, left-fails, right-fails}
+use Rattle.table.proofs.Refusals.{Clear, either, both-hold, not-fails}
 use Rattle.table.proofs.Valid.{Valid, ring-facts, vector-facts}
 use Rattle.table.proofs.Done.{many}
 use Rattle.table.proofs.Rows.{kept, kept-made, kept2, headed, headed2}
@@ -106,10 +106,6 @@ module _ (k : Kind) (call : Call) (t : Tray) (o : Outcome) (promised : o ≡ doe
       (λ r. ok)
       (λ clear. relay-valid k t _ _ (facts k t ok .small) (call-leaves k call t clear)))
 
-  pub invalid-refused : invalid k t ≡ true → o ≡ refused t (rowOf k call t .given) 1
-  unfolding does
-  invalid-refused bad = rw bad at promised
-
 -- A call on two: each stays valid, whatever the other is.
 module _ (k k2 : Kind) (call : Call2) (t t2 : Tray) (o : Outcome2) (promised : o ≡ does2 k k2 call t t2) where
   pub first-stays-valid : invalid k t ≡ false → invalid k (o .first) ≡ false
@@ -128,23 +124,10 @@ module _ (k k2 : Kind) (call : Call2) (t t2 : Tray) (o : Outcome2) (promised : o
       (λ r. ok)
       (λ clear. relay-valid k2 t2 _ _ (facts k2 t2 ok .small) (two-leave k k2 call t t2 clear .second)))
 
-  pub first-invalid-refused : invalid k t ≡ true → o ≡ refused2 t t2 (rowOf2 k k2 call t t2 .given) 1
-  unfolding does2
-  first-invalid-refused bad = rw bad at promised
-
-  pub second-invalid-refused : invalid k t ≡ false → invalid k2 t2 ≡ true → o ≡ refused2 t t2 (rowOf2 k k2 call t t2 .given) 2
-  unfolding does2
-  second-invalid-refused ok bad = rw (ok, bad) at promised
-
--- state 0, 0 is valid on at most 4,096 slots, and on no more
+-- state 0, 0 is valid on at most 4,096 slots
 pub bare-valid : (k : Kind) (slots : List ℕ) → length slots ≤ 4096 → invalid k (bare slots) ≡ false
 bare-valid k slots few =
     not-fails _ (valid-of k (length slots) 0 0 (record { small = few; fits = omega arith; inside = head-in k 0 _ (omega arith) }))
-
-pub bare-invalid : (k : Kind) (slots : List ℕ) → 4096 < length slots → invalid k (bare slots) ≡ true
-unfolding valid
-bare-invalid ring slots over = not-holds _ (left-fails (leb (length slots) 4096) _ (lt-leb _ _ over))
-bare-invalid vector slots over = not-holds _ (right-fails (leb 0 (length slots)) _ (lt-leb _ _ over))
 
 -- A making, refused or not.
 module _ (k : Kind) (m : Making) (slots : List ℕ) (o : Outcome) (promised : o ≡ made k m slots) where
@@ -158,6 +141,3 @@ module _ (k : Kind) (m : Making) (slots : List ℕ) (o : Outcome) (promised : o 
   pub over-refused : 4096 < length slots → o ≡ refused (bare slots) nowhere 1
   unfolding made
   over-refused over = rw (lt-ltb 4096 (length slots) over) at promised
-
-  pub made-invalid : 4096 < length slots → invalid k (o .tray) ≡ true
-  made-invalid over = rw (over-refused over) (bare-invalid k slots over)

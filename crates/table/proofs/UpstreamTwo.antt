@@ -1,6 +1,6 @@
 -- Upstream's clauses of a call on two containers, as `Upstream` has those on one: each follows from the call's promise, `o ≡ does2 k k2 call t t2`. T, the
 -- second, stands for upstream's `other` and for the container that it returns. Assumes nothing.
-use Prim.Native.Nat.{ℕ, suc, _-_, _≤_, _<_}
+use Prim.Native.Nat.{ℕ, _-_, _≤_, _<_}
 use mathlib.Core.Path.{_≡_, ap, _∙_}
 use mathlib.Core.Bool.{true, false, cond, true≢false, false≢true}
 use mathlib.Core.List.{List, [], _++_, List-discrete}
@@ -20,7 +20,7 @@ use Rattle.table.specs.Does.{Outcome2, rowOf2, does2}
 use Rattle.table.proofs.Refusals.{firstNumber}
 use Rattle.table.proofs.Done.{many}
 use Rattle.table.proofs.Equal.{tells-equal}
-use Rattle.table.proofs.Refused.{two-settled, two-refused}
+use Rattle.table.proofs.Refused.{two-settled}
 use Rattle.table.proofs.Listed.{two-listed}
 use Rattle.table.proofs.Upstream.{Says, IfRoom, by-lt}
 
@@ -51,11 +51,6 @@ module _ (k k2 : Kind) (call : Call2) (t t2 : Tray) (o : Outcome2) (promised : o
 
   pub second-list : o .number ≡ 0 → list k2 (o .second) ≡ after2 call (list k t) (list k2 t2) .1
   second-list done = two-listed k k2 call t t2 o promised done .second .listed
-
-  pub refused-lists : (m : ℕ) → o .number ≡ suc m → (list k (o .first) ≡ list k t) × (list k2 (o .second) ≡ list k2 t2)
-  refused-lists m e =
-      let as-it-was = two-refused k k2 call t t2 o promised m e in
-      (ap (λ o. list k (o .first)) as-it-was, ap (λ o. list k2 (o .second)) as-it-was)
 
   pub numbered2 : invalid k t ≡ false → invalid k2 t2 ≡ false → o .number ≡ firstNumber (rowOf2 k k2 call t t2 .refusals)
   numbered2 ok ok2 = rw (promised, two-settled k k2 call t t2 .first, ok, ok2)

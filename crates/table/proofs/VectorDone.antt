@@ -1,6 +1,6 @@
 -- What some calls of a vector do where they are done, as the proof of each function finds it: a vector's position is its slot, so nothing is said
 -- of where it stands. Assumes nothing.
-use mathlib.Core.Path.{_≡_, refl, sym, _∙_}
+use mathlib.Core.Path.{_≡_, refl}
 use mathlib.Core.Bool.{false}
 use mathlib.Core.List.{List}
 use mathlib.Core.Logic.{⊎-elim}

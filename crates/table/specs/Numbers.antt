@@ -1,13 +1,13 @@
 -- The numbers a call may answer, number by number, as paper 01 lists them: `Applies .. m call` says that m's condition holds. The table has
 -- the same conditions row by row; `proofs/Numbers` shows that a call answers the lowest number that applies here. Assumes nothing.
-use Prim.Native.Nat.{ℕ, _+_, _-_, _≤_, _<_}
+use Prim.Native.Nat.{ℕ, _-_, _≤_, _<_}
 use mathlib.Core.Path.{_≡_}
 use mathlib.Core.Bool.{true}
 use mathlib.Core.List.{List}
 use lib.ListN.{length}
 use Rattle.slots.specs.Layout.{Kind}
 use Rattle.table.specs.Tray.{Tray, cap, invalid, Cursor}
-use Rattle.table.specs.Calls.{Look, read, reserve, tryReserve, tryReserveExact, range, stepFront, stepBack, peekFront, peekBack}
+use Rattle.table.specs.Calls.{read, reserve, tryReserve, tryReserveExact, range, stepFront, stepBack, peekFront, peekBack}
 use Rattle.table.specs.Calls.{Call, push, pushFront, pop, popFront, insert, remove, swapRemove, write, resize, extend, look}
 use Rattle.table.specs.Calls.{Call2, append, splitOff, clone, fromIter, Making, withCapacity, fromElem}
 

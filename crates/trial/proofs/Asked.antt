@@ -1,12 +1,11 @@
 -- What a line asks, once its length, its digits and its numbers are seen. Assumes nothing.
-use mathlib.Core.Path.{_≡_, refl, sym, ap, _∙_}
-use mathlib.Core.Bool.{Bool, true, false, cond}
+use mathlib.Core.Path.{_≡_, sym, ap, _∙_}
+use mathlib.Core.Bool.{Bool, true, false}
 use mathlib.Core.List.{List}
 use Prim.Native.Nat.{ℕ, _≤_, _<_}
 use borrow.Author.Tests.{eq-eqb, ne-eqb, lt-ltb, le-ltb}
 use lib.ListN.{length}
 use Rattle.hex.specs.Hex.{areDigits}
-use Rattle.trial.specs.declared.lines.Asked.{Asked}
 use Rattle.trial.specs.declared.lines.Verdict.{Verdict}
 use Rattle.trial.specs.Lines.{entryOf, isUnknown, takesEntry, isBeyond, sorts, field, judges}
 

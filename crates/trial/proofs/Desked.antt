@@ -1,10 +1,9 @@
 -- What a call does to the whole desk: the call's outcome in the places that it names, and the rest as it was. Assumes nothing.
-use mathlib.Core.Path.{_≡_, refl, sym, ap, _∙_}
+use mathlib.Core.Path.{_≡_, ap, _∙_}
 use mathlib.Core.List.{List}
 use Prim.Native.Nat.{ℕ}
 use borrow.Author.Tests.{eq-eqb, ne-eqb}
 use Rattle.slots.specs.Layout.{ring, vector}
-use Rattle.table.specs.Tray.{Tray, Cursor}
 use Rattle.table.specs.Calls.{fromIter}
 use Rattle.table.specs.Does.{Outcome, Outcome2, does2, refused2}
 use Rattle.ring.specs.Seen as rings
@@ -21,7 +20,7 @@ use Rattle.trial.specs.declared.walks.Walked.{Walked}
 use Rattle.trial.specs.declared.desks.Desk.{Desk}
 use Rattle.trial.specs.declared.desks.Did.{Did}
 use Rattle.trial.specs.Cases.{ringWalk, vectorWalk}
-use Rattle.trial.specs.Scenes.{Scene, flat, one, two, walk, ringWalks, vectorWalks}
+use Rattle.trial.specs.Scenes.{flat, one, two, walk, ringWalks, vectorWalks}
 use Rattle.trial.specs.Seen.{walking, scene, did, ofRing, ofVector, ofRings, ofVectors, ofRingWalk, ofVectorWalk, ofRingTaken, ofVectorTaken, ofNone}
 
 module _ (d : Desk) (r : Did) where

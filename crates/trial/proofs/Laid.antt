@@ -8,7 +8,7 @@ use lib.ListN.{length, set, replicate}
 use Rattle.hex.specs.Put.{put}
 use Rattle.trial.specs.declared.desks.Desk.{Desk}
 use Rattle.trial.specs.declared.places.Placed.{Placed}
-use Rattle.trial.specs.Placing.{Places, placed, placing, covered}
+use Rattle.trial.specs.Placing.{placed, placing, covered}
 
 -- what is covered, with what is left covered after it, is always the whole
 module _ (x : ℕ) (slots all : List ℕ) (i n : ℕ) where

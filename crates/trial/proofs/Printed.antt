@@ -13,7 +13,6 @@ use Rattle.trial.specs.declared.desks.Desk.{Desk}
 use Rattle.trial.specs.declared.desks.Did.{Did}
 use Rattle.table.specs.Parts.{Part, inPart}
 use Rattle.table.specs.Does.{Outcome2}
-use Rattle.trial.specs.declared.tells.Told.{Told}
 use Rattle.trial.specs.Lines.{entryOf}
 use Rattle.trial.specs.Seen.{did, scene, ofPart}
 use Rattle.trial.specs.Tells.{word, space, twoWords, answerWords, deskWords, deskOf, printed, bytes, tells, tellsMore, told, shows, partIn, tellsPart}

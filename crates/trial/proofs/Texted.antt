@@ -1,5 +1,5 @@
 -- What the writer of the stored form leaves: its answer in the first container's place, and the text. Assumes nothing.
-use mathlib.Core.Path.{_≡_, refl, sym, ap, _∙_}
+use mathlib.Core.Path.{_≡_, refl, ap, _∙_}
 use mathlib.Core.List.{List}
 use Prim.Native.Nat.{ℕ}
 use borrow.Author.Tests.{eq-eqb, ne-eqb}
@@ -7,7 +7,7 @@ use Rattle.slots.specs.Layout.{ring, vector}
 use Rattle.ring.specs.declared.Answer as ringAnswers
 use Rattle.vector.specs.declared.Answer as vectorAnswers
 use Rattle.hex.specs.Put.{put}
-use Rattle.stored.specs.Written.{Written, writes}
+use Rattle.stored.specs.Written.{writes}
 use Rattle.stored.specs.Seen.{seenRing, seenVector}
 use Rattle.trial.specs.declared.desks.Desk.{Desk}
 use Rattle.trial.specs.declared.desks.Did.{Did}

@@ -1,11 +1,10 @@
 -- What a line of `replay` asks, or why it can't be taken. Assumes nothing.
 use Prim.Native.Nat.{ℕ}
-use mathlib.Core.Bool.{Bool, true, false, cond, not, _&&_, _||_}
+use mathlib.Core.Bool.{Bool, cond, not, _&&_, _||_}
 use mathlib.Core.List.{List}
 use lib.ListN.{length, take, drop}
 use lib.Dec.{eqb, ltb, leb}
 use Rattle.hex.specs.Hex.{areDigits, says}
-use Rattle.trial.specs.declared.lines.Asked.{Asked}
 use Rattle.trial.specs.declared.lines.Verdict.{Verdict}
 
 -- an entry has 32 bits

@@ -1,7 +1,7 @@
 -- What a call does to all that stands on the desk, two containers and a cursor: the call's own row, and the rest as it was. Assumes nothing.
 use Prim.Native.Nat.{ℕ, _/_}
 use mathlib.Core.Bool.{cond}
-use mathlib.Core.List.{List, [], _∷_}
+use mathlib.Core.List.{[], _∷_}
 use lib.Dec.{eqb}
 use Rattle.slots.specs.Layout.{ring, vector}
 use Rattle.table.specs.Tray.{Tray, Cursor}

@@ -1,6 +1,5 @@
 -- `word` meets its promise. Assumes nothing.
 use borrow.Author.Needs.{needs}
-use native.Mathlib.Omega.{arith}
 use Rattle.exports.proofs.Words.{worded}
 use Rattle.exports.proofs.word.Statement.{statement}
 use Rattle.exports.proofs.word.Tie as tie

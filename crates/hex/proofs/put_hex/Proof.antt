@@ -1,9 +1,8 @@
 -- `put_hex` meets its promise: what is put, with the digits that are left put before it, is always the whole. Assumes nothing.
 use Prim.Native.Nat.{_≤_}
-use mathlib.Core.Path.{_≡_, refl}
-use native.Mathlib.Omega.{arith}
+use mathlib.Core.Path.{_≡_}
 use borrow.Author.Needs.{needs}
-use lib.ListN.{length, length-set}
+use lib.ListN.{length}
 use Rattle.hex.specs.Hex.{hex}
 use Rattle.hex.specs.Put.{put}
 use Rattle.hex.proofs.Puts.{put-digit, put-none}

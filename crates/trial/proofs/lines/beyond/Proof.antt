@@ -1,5 +1,4 @@
 -- `lines::beyond` meets its promise: it is the definition. Assumes nothing.
-use borrow.Author.Needs.{needs}
 use mathlib.Core.Path.{refl}
 use Rattle.trial.specs.Lines.{isBeyond}
 use Rattle.trial.proofs.lines.beyond.Statement.{statement}

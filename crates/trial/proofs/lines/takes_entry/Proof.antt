@@ -1,5 +1,4 @@
 -- `lines::takes_entry` meets its promise: it is the definition. Assumes nothing.
-use borrow.Author.Needs.{needs}
 use mathlib.Core.Path.{refl}
 use Rattle.trial.specs.Lines.{takesEntry}
 use Rattle.trial.proofs.lines.takes_entry.Statement.{statement}

@@ -1,5 +1,4 @@
 -- `lines::unknown` meets its promise: it is the definition. Assumes nothing.
-use borrow.Author.Needs.{needs}
 use mathlib.Core.Path.{refl}
 use Rattle.trial.specs.Lines.{isUnknown}
 use Rattle.trial.proofs.lines.unknown.Statement.{statement}

@@ -2,7 +2,7 @@
 use Prim.Native.Nat.{_-_, _≤_}
 use mathlib.Core.Path.{_≡_}
 use borrow.Author.Needs.{needs}
-use lib.ListN.{length, replicate, length-set}
+use lib.ListN.{length, replicate}
 use Rattle.hex.specs.Put.{put}
 use Rattle.trial.specs.Placing.{covered}
 use Rattle.trial.proofs.Laid.{cover-begin, cover-turn, cover-end}

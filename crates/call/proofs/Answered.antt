@@ -1,12 +1,12 @@
 -- The answer's line, put number by number, and its length; and what each thing that a line can say comes to. Assumes nothing.
-use mathlib.Core.Path.{_≡_, sym, ap, _∙_}
+use mathlib.Core.Path.{_≡_, refl, sym, ap, _∙_}
 use mathlib.Core.List.{List, [], _∷_, _++_, append-nil}
 use Prim.Native.Nat.{ℕ, _+_}
 use native.Mathlib.Omega.{arith}
 use lib.ListN.{length, set, replicate, length-append, drop-of-length-le}
 use Rattle.hex.specs.Hex.{hex, lf}
 use Rattle.hex.specs.Put.{put}
-use Rattle.hex.proofs.Puts.{put-one, put-join, put-start, length-hex}
+use Rattle.hex.proofs.Puts.{after-hex, put-ended, put-start, length-hex}
 use Rattle.table.specs.World.{World}
 use Rattle.call.specs.declared.lines.Call.{Call}
 use Rattle.call.specs.declared.lines.Said.{Said}
@@ -16,10 +16,6 @@ use Rattle.call.specs.Lines.{said}
 use Rattle.call.specs.Acts.{Acts, acts}
 use Rattle.call.specs.Seen.{actedSeen}
 use Rattle.call.specs.Answers.{lineOf, bare, Tells, tellsOf, tells}
-
--- digits, and what is put right after them
-then : (text : List ℕ) (at n x : ℕ) (s : List ℕ) → put (put text at (hex n x)) (at + n) s ≡ put text at (hex n x ++ s)
-then text at n x s = ap (λ k. put (put text at (hex n x)) (at + k) s) (sym (length-hex n x)) ∙ put-join text at (hex n x) s
 
 pub length-line : (a : Answer) → length (lineOf a) ≡ 23
 unfolding lineOf
@@ -34,22 +30,19 @@ pub line-put : (z a b c d e : List ℕ) (x : Answer) → z ≡ replicate 23 0 �
     → c ≡ put b 10 (hex 4 (x .moves)) → d ≡ put c 14 (hex 4 (x .head)) → e ≡ put d 18 (hex 4 (x .len)) → set e 22 10 ≡ lineOf x
 unfolding lineOf
 line-put z a b c d e x ez ea eb ec ed ee =
-    let s5 : List ℕ = lf ∷ [] in
-    let s4 : List ℕ = hex 4 (x .len) ++ s5 in
+    let s4 : List ℕ = hex 4 (x .len) ++ (lf ∷ []) in
     let s3 : List ℕ = hex 4 (x .head) ++ s4 in
     let s2 : List ℕ = hex 4 (x .moves) ++ s3 in
     let s1 : List ℕ = hex 8 (x .value) ++ s2 in
-    ap (λ t. set t 22 10) ee
-    ∙ sym (put-one (put d 18 (hex 4 (x .len))) 22 10)
-    ∙ then d 18 4 (x .len) s5
+    put-ended d e 18 4 (x .len) lf ee
     ∙ ap (λ t. put t 18 s4) ed
-    ∙ then c 14 4 (x .head) s4
+    ∙ after-hex c 14 4 (x .head) 18 s4 refl
     ∙ ap (λ t. put t 14 s3) ec
-    ∙ then b 10 4 (x .moves) s3
+    ∙ after-hex b 10 4 (x .moves) 14 s3 refl
     ∙ ap (λ t. put t 10 s2) eb
-    ∙ then a 2 8 (x .value) s2
+    ∙ after-hex a 2 8 (x .value) 10 s2 refl
     ∙ ap (λ t. put t 2 s1) ea
-    ∙ then z 0 2 (x .number) s1
+    ∙ after-hex z 0 2 (x .number) 2 s1 refl
     ∙ all-of (lineOf x) z (length-line x ∙ sym (ap length ez))
 
 length-of : (w : World) (s : Said) → length (tellsOf w s .text) ≡ 23

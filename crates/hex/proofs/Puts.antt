@@ -48,6 +48,18 @@ unfolding hex
 length-hex zero x = refl
 length-hex (suc n) x = length-append (hex n (x / 16)) _ ∙ omega (arith, length-hex n (x / 16))
 
+-- what is put right after a run of n bytes, or after n digits
+pub put-after : (text s s2 : List ℕ) (at n k : ℕ) → length s ≡ n → at + n ≡ k → put (put text at s) k s2 ≡ put text at (s ++ s2)
+put-after text s s2 at n k en ek = ap (λ k. put (put text at s) k s2) (sym (ap (λ m. at + m) en ∙ ek)) ∙ put-join text at s s2
+
+pub after-hex : (text : List ℕ) (at n x k : ℕ) (s : List ℕ) → at + n ≡ k → put (put text at (hex n x)) k s ≡ put text at (hex n x ++ s)
+after-hex text at n x k s e = put-after text (hex n x) s at n k (length-hex n x) e
+
+-- a number's digits, and the byte that ends them
+pub put-ended : (text mid : List ℕ) (at n x end : ℕ) → mid ≡ put text at (hex n x) → set mid (at + n) end ≡ put text at (hex n x ++ (end ∷ []))
+put-ended text mid at n x end em =
+    ap (λ t. set t (at + n) end) em ∙ sym (put-one (put text at (hex n x)) (at + n) end) ∙ after-hex text at n x (at + n) (end ∷ []) refl
+
 -- the last of the digits that are left is put, and the others are left
 put-digit′ : (text : List ℕ) (at n x : ℕ) → put (set text (at + n) (digit (x % 16))) at (hex n (x / 16)) ≡ put text at (hex (suc n) x)
 unfolding put hex

@@ -11,12 +11,8 @@ use Rattle.table.specs.Tray.{Tray, cap}
 use Rattle.table.specs.Does.{headIn}
 use Rattle.hex.specs.Hex.{hex, lf, atStart}
 use Rattle.hex.specs.Put.{put}
-use Rattle.hex.proofs.Puts.{put-one, put-join, put-start, length-hex}
+use Rattle.hex.proofs.Puts.{put-after, after-hex, put-ended, put-start, length-hex}
 use Rattle.stored.specs.Form.{kindByte, stateDigits, firstLine, slotLine, slotLines, form, size}
-
--- n digits, and what is put right after them
-after-hex : (text : List ℕ) (at n x k : ℕ) (s : List ℕ) → at + n ≡ k → put (put text at (hex n x)) k s ≡ put text at (hex n x ++ s)
-after-hex text at n x k s e = ap (λ k. put (put text at (hex n x)) k s) (sym (ap (λ m. at + m) (length-hex n x) ∙ e)) ∙ put-join text at (hex n x) s
 
 -- the numbers of the first line, each where the one before it ends
 pub state-put : (text a b e : List ℕ) (cap head len : ℕ) → a ≡ put text 4 (hex 4 cap) → b ≡ put a 8 (hex 4 head) → e ≡ put b 12 (hex 4 len)
@@ -25,9 +21,7 @@ unfolding stateDigits
 state-put text a b e cap head len ea eb ee =
     let s2 : List ℕ = hex 4 len ++ (lf ∷ []) in
     let s1 : List ℕ = hex 4 head ++ s2 in
-    ap (λ t. set t 16 10) ee
-    ∙ sym (put-one (put b 12 (hex 4 len)) 16 10)
-    ∙ after-hex b 12 4 len 16 (lf ∷ []) refl
+    put-ended b e 12 4 len lf ee
     ∙ ap (λ t. put t 12 s2) eb
     ∙ after-hex a 8 4 head 12 s2 refl
     ∙ ap (λ t. put t 8 s1) ea
@@ -50,7 +44,7 @@ length-slot-line x = length-append (hex 8 x) (lf ∷ []) ∙ omega (arith, lengt
 -- a slot's digits and their end are its line
 pub line-put : (text mid : List ℕ) (at x : ℕ) → mid ≡ put text at (hex 8 x) → set mid (at + 8) 10 ≡ put text at (slotLine x)
 unfolding slotLine
-line-put text mid at x em = ap (λ t. set t (at + 8) 10) em ∙ sym (put-one (put text at (hex 8 x)) (at + 8) 10) ∙ after-hex text at 8 x (at + 8) (lf ∷ []) refl
+line-put text mid at x em = put-ended text mid at 8 x lf em
 
 -- one more slot's line
 pub slots-turn : (slots text mid all : List ℕ) (i at : ℕ) → put text at (slotLines (drop i slots)) ≡ all → i < length slots
@@ -61,8 +55,7 @@ slots-turn slots text mid all i at is lt em =
     let left : drop i slots ≡ x ∷ drop (i + 1) slots = rw (add-one, drop-cons slots i 0) in
     let rest : List ℕ = slotLines (drop (i + 1) slots) in
     ap (λ t. put t (at + 9) rest) em
-    ∙ ap (λ m. put (put text at (slotLine x)) (at + m) rest) (sym (length-slot-line x))
-    ∙ put-join text at (slotLine x) rest
+    ∙ put-after text (slotLine x) rest at 9 (at + 9) (length-slot-line x) refl
     ∙ sym (ap (λ s. put text at (slotLines s)) left)
     ∙ is
 
@@ -97,6 +90,5 @@ form-put k t text mid room em =
     let whole : List ℕ = first ++ slotLines (t .slots) in
     let fits : length whole ≤ length text = omega (arith, length-form k t) in
     ap (λ t′. put t′ 17 (slotLines (t .slots))) em
-    ∙ ap (λ m. put (put text 0 first) m (slotLines (t .slots))) (omega (arith, length-first (kindByte k) (cap t) (headIn k (t .head)) (t .len)))
-    ∙ put-join text 0 first (slotLines (t .slots))
+    ∙ put-after text first (slotLines (t .slots)) 0 17 17 (length-first (kindByte k) (cap t) (headIn k (t .head)) (t .len)) refl
     ∙ put-start text whole fits

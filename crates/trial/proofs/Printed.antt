@@ -6,7 +6,7 @@ use native.Mathlib.Omega.{arith}
 use lib.ListN.{length, set, length-append, length-take, length-drop}
 use Rattle.hex.specs.Hex.{hex, lf}
 use Rattle.hex.specs.Put.{put}
-use Rattle.hex.proofs.Puts.{put-one, put-join, length-put, length-hex}
+use Rattle.hex.proofs.Puts.{put-after, put-ended, length-put, length-hex}
 use Rattle.stored.specs.Form.{slotLines}
 use Rattle.stored.proofs.Lines.{length-slots}
 use Rattle.trial.specs.declared.desks.Desk.{Desk}
@@ -17,15 +17,10 @@ use Rattle.trial.specs.Lines.{entryOf}
 use Rattle.trial.specs.Seen.{did, scene, ofPart}
 use Rattle.trial.specs.Tells.{word, space, twoWords, answerWords, deskWords, deskOf, printed, bytes, tells, tellsMore, told, shows, partIn, tellsPart}
 
--- what is put right after a run of n bytes
-after : (text s s2 : List ℕ) (at n k : ℕ) → length s ≡ n → at + n ≡ k → put (put text at s) k s2 ≡ put text at (s ++ s2)
-after text s s2 at n k en ek = ap (λ k. put (put text at s) k s2) (sym (ap (λ m. at + m) en ∙ ek)) ∙ put-join text at s s2
-
 -- a number's digits and their end are its word
 pub word-put : (text mid : List ℕ) (at n x end : ℕ) → mid ≡ put text at (hex n x) → set mid (at + n) end ≡ put text at (word n x end)
 unfolding word
-word-put text mid at n x end em =
-    ap (λ t. set t (at + n) end) em ∙ sym (put-one (put text at (hex n x)) (at + n) end) ∙ after text (hex n x) (end ∷ []) at n (at + n) (length-hex n x) refl
+word-put text mid at n x end em = put-ended text mid at n x end em
 
 length-word : (n x end : ℕ) → length (word n x end) ≡ n + 1
 unfolding word
@@ -33,7 +28,7 @@ length-word n x end = length-append (hex n x) (end ∷ []) ∙ ap (λ m. m + 1) 
 
 -- a word, and what is put right after it
 after-word : (text s : List ℕ) (at n x end k : ℕ) → at + (n + 1) ≡ k → put (put text at (word n x end)) k s ≡ put text at (word n x end ++ s)
-after-word text s at n x end k e = after text (word n x end) s at (n + 1) k (length-word n x end) e
+after-word text s at n x end k e = put-after text (word n x end) s at (n + 1) k (length-word n x end) e
 
 pub answer-put : (text a b c : List ℕ) (number value moves : ℕ) → a ≡ put text 0 (word 2 number 32) → b ≡ put a 3 (word 8 value 32) → c ≡ put b 12 (word 16 moves 32)
     → c ≡ put text 0 (answerWords number value moves)
@@ -62,9 +57,9 @@ desk-put text a b c d ea eb ec =
     let s1 : List ℕ = twoWords (d .head2) (d .len2) space ++ s2 in
     ec
     ∙ ap (λ t. put t 97 s2) eb
-    ∙ after a (twoWords (d .head2) (d .len2) space) s2 63 34 97 (length-two (d .head2) (d .len2) space) refl
+    ∙ put-after a (twoWords (d .head2) (d .len2) space) s2 63 34 97 (length-two (d .head2) (d .len2) space) refl
     ∙ ap (λ t. put t 63 s1) ea
-    ∙ after text (twoWords (d .head) (d .len) space) s1 29 34 63 (length-two (d .head) (d .len) space) refl
+    ∙ put-after text (twoWords (d .head) (d .len) space) s1 29 34 63 (length-two (d .head) (d .len) space) refl
 
 length-answer : (number value moves : ℕ) → length (answerWords number value moves) ≡ 29
 unfolding answerWords
@@ -84,11 +79,11 @@ printed-put text a b c e slots theirs r at ea eb ec ee et =
     let s1 : List ℕ = slotLines slots ++ s2 in
     ee
     ∙ ap (λ t. put t at s2) ec
-    ∙ after b (slotLines slots) s2 131 (9 * length slots) at (length-slots slots) (sym et)
+    ∙ put-after b (slotLines slots) s2 131 (9 * length slots) at (length-slots slots) (sym et)
     ∙ ap (λ t. put t 131 s1) eb
-    ∙ after a (deskWords (r .desk)) s1 29 102 131 (length-desk (r .desk)) refl
+    ∙ put-after a (deskWords (r .desk)) s1 29 102 131 (length-desk (r .desk)) refl
     ∙ ap (λ t. put t 29 (deskWords (r .desk) ++ s1)) ea
-    ∙ after text (answerWords (r .number) (r .value) (r .moves)) (deskWords (r .desk) ++ s1) 0 29 29 (length-answer (r .number) (r .value) (r .moves)) refl
+    ∙ put-after text (answerWords (r .number) (r .value) (r .moves)) (deskWords (r .desk) ++ s1) 0 29 29 (length-answer (r .number) (r .value) (r .moves)) refl
 
 length-printed : (o : Outcome2) → length (printed o) ≡ bytes o
 unfolding printed
@@ -110,7 +105,7 @@ module _ (r : Did) (n : ℕ) (slots theirs text out : List ℕ) (o : Outcome2) w
   told-more part out2 eo et en e2 =
       let done : Outcome2 = did r slots theirs in
       let joined : out2 ≡ put text 0 (printed done ++ slotLines part) =
-      e2 ∙ ap (λ t. put t n (slotLines part)) et ∙ after text (printed done) (slotLines part) 0 (bytes done) n (length-printed done) (omega (arith, en)) in
+      e2 ∙ ap (λ t. put t n (slotLines part)) et ∙ put-after text (printed done) (slotLines part) 0 (bytes done) n (length-printed done) (omega (arith, en)) in
       let long : n + 9 * length part ≡ bytes done + length (slotLines part) =
       ap (λ n. n + 9 * length part) en ∙ sym (ap (λ m. bytes done + m) (length-slots part)) in
       let all : told (record { desk = r .desk; count = n + 9 * length part }) slots theirs out2 ≡ tellsMore done (slotLines part) text = cc (joined, long) in

@@ -1,29 +1,20 @@
 -- What a line says, from its fields: a number that stands in no table is unknown, and a value has 32 bits. Assumes nothing.
 use mathlib.Core.Path.{_≡_, refl, sym, _∙_}
 use mathlib.Core.Bool.{Bool, true, false}
-use mathlib.Core.List.{List, [], _∷_}
+use mathlib.Core.List.{List}
 use Prim.Native.Nat.{ℕ, _^_, _<_}
 use native.Mathlib.Omega.{arith}
 use borrow.Author.Tests.{eq-eqb, ne-eqb}
 use lib.ListN.{length, take, drop, length-take, length-drop}
 use Rattle.hex.specs.Hex.{areDigits}
+use Rattle.hex.specs.Rows.{under}
+use Rattle.hex.proofs.Rows.{Apart, no-row}
 use Rattle.call.specs.declared.lines.Said.{Said}
-use Rattle.call.specs.Lines.{under, operation, container, position, value, callSays, said}
+use Rattle.call.specs.Lines.{operation, container, position, value, callSays, said}
 
--- a number that stands in no row, as the code has it once every row was tried: the first row innermost
-abbrev pub Apart : {A : Type 0} → (n : ℕ) → List (ℕ × A) → (before : Type 0) → Type 0
-Apart n [] before = before
-Apart n (row ∷ rest) before = Apart n rest (before × (n ≡ row .0 → ⊥))
-
-none : {A : Type 0} (n : ℕ) (rows : List (ℕ × A)) (f : A → Said) (before : Type 0) → Apart n rows before → before × (Said.Unknown ≡ under n rows f)
-unfolding under
-none n [] f before apart = (apart, refl)
-none n (row ∷ rest) f before apart =
-    let later = none n rest f (before × (n ≡ row .0 → ⊥)) apart in
-    (later .0 .0, rw (ne-eqb n (row .0) (later .0 .1)) (later .1))
-
-pub unknown : {A : Type 0} (n : ℕ) (rows : List (ℕ × A)) (f : A → Said) (before : Type 0) → Apart n rows before → Said.Unknown ≡ under n rows f
-unknown n rows f before apart = none n rows f before apart .1
+-- a number that stands in no row, once every row was tried
+pub unknown : (n : ℕ) (rows : List (ℕ × Said)) (before : Type 0) → Apart n rows before → Said.Unknown ≡ under n rows Said.Unknown
+unknown n rows before apart = no-row n rows Said.Unknown Said.Unknown before apart refl
 
 -- the value of a line has 32 bits
 pub value-fits : (l : List ℕ) (x : ℕ) → length l ≡ 16 → x < 16 ^ length (take 8 (drop 8 l)) → x < 2 ^ 32

@@ -9,7 +9,8 @@ use Rattle.slots.specs.Moves.{moved}
 use Rattle.table.specs.Tray.{valid}
 use Rattle.table.specs.Does.{does, does2, made}
 use Rattle.hex.specs.Hex.{hex, lf}
-use Rattle.call.specs.Lines.{under, callSays, said}
+use Rattle.hex.specs.Rows.{under}
+use Rattle.call.specs.Lines.{callSays, said}
 use Rattle.call.specs.Acts.{acts, begun}
 use Rattle.call.specs.Answers.{lineOf, tells}
 use Rattle.call.specs.Runs.{linesOf, answered}

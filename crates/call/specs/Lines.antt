@@ -5,6 +5,7 @@ use mathlib.Core.List.{List, [], _∷_}
 use lib.ListN.{length, take, drop}
 use lib.Dec.{eqb}
 use Rattle.hex.specs.Hex.{areDigits, says}
+use Rattle.hex.specs.Rows.{under}
 use Rattle.call.specs.declared.lines.RingOp.{RingOp}
 use Rattle.call.specs.declared.lines.VectorOp.{VectorOp}
 use Rattle.call.specs.declared.lines.Call.{Call}
@@ -64,23 +65,23 @@ vectorOps i x =
     ∷ (14, VectorOp.Write i x)
     ∷ []
 
--- what stands under a number in a table; where nothing does, the line is unknown
-unfoldable pub under : {A : Type 0} → (n : ℕ) → List (ℕ × A) → (A → Said) → Said
-under n [] says = Said.Unknown
-under n (row ∷ rest) says = cond (eqb n (row .0)) (says (row .1)) (under n rest says)
+-- the calls that a kind's operations are, by the same numbers
+abbrev pub calls : {A : Type 0} → (A → Call) → List (ℕ × A) → List (ℕ × Said)
+calls call [] = []
+calls call (row ∷ rest) = (row .0, Said.Call (call (row .1))) ∷ calls call rest
 
--- rings 0 and 1, vectors 2 and 3; the flag says whether it is the second of its kind
+-- Rings 0 and 1, vectors 2 and 3; the flag says whether it is the second of its kind. A number that stands in no row is unknown.
 abbrev pub ringSays : (second : Bool) (op i x : ℕ) → Said
-ringSays second op i x = under op (ringOps i x) (λ o. Said.Call (Call.Ring second o))
+ringSays second op i x = under op (calls (Call.Ring second) (ringOps i x)) Said.Unknown
 
 abbrev pub vectorSays : (second : Bool) (op i x : ℕ) → Said
-vectorSays second op i x = under op (vectorOps i x) (λ o. Said.Call (Call.Vector second o))
+vectorSays second op i x = under op (calls (Call.Vector second) (vectorOps i x)) Said.Unknown
 
 unfoldable pub callSays : (op container i x : ℕ) → Said
 callSays op container i x =
     under container
     ((0, ringSays false op i x) ∷ (1, ringSays true op i x) ∷ (2, vectorSays false op i x) ∷ (3, vectorSays true op i x) ∷ [])
-    (λ s. s)
+    Said.Unknown
 
 -- garbled before unknown
 unfoldable pub said : (l : List ℕ) → Said

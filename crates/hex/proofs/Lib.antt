@@ -2,4 +2,5 @@
 pub mod Puts
 pub mod Digits
 pub mod Fields
+pub mod Rows
 pub mod Once

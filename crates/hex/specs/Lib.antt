@@ -1,3 +1,4 @@
 -- What the promises on hexadecimal text cite.
 pub mod Hex
 pub mod Put
+pub mod Rows

@@ -1,36 +1,16 @@
--- What is found under a number: the row that bears it, and for a number that no row bears what stands for none. Assumes nothing.
-use mathlib.Core.Path.{_≡_, refl, sym, ap, _∙_}
-use mathlib.Core.List.{List, [], _∷_}
+-- The part that is lent under a number: its row's, and for a number that no row bears what stands for none. Assumes nothing.
+use mathlib.Core.Path.{_≡_, refl, sym}
+use mathlib.Core.List.{List}
 use Prim.Native.Nat.{ℕ}
-use borrow.Author.Tests.{ne-eqb}
 use denote.Ref.{RefT}
 use Rattle.table.specs.Parts.{Part}
 use Rattle.vector.specs.Lent.{Lent}
-use Rattle.trial.specs.Cases.{under}
+use Rattle.hex.specs.Rows.{under}
+use Rattle.hex.proofs.Rows.{Apart, no-row}
 
-module _ {A : Type 0} (rows : List (ℕ × A)) (none : A) where
-  pub row-is : (op n : ℕ) (o : A) → op ≡ n → o ≡ under n rows none → o ≡ under op rows none
-  row-is op n o e found = found ∙ sym (ap (λ n. under n rows none) e)
-
--- a number that stands in no row, as the code has it once every row was tried: the first row innermost
-abbrev pub Apart : {A : Type 0} → (n : ℕ) → List (ℕ × A) → (before : Type 0) → Type 0
-Apart n [] before = before
-Apart n (row ∷ rest) before = Apart n rest (before × (n ≡ row .0 → ⊥))
-
-missed : {A : Type 0} (n : ℕ) (rows : List (ℕ × A)) (none : A) (before : Type 0) → Apart n rows before → before × (none ≡ under n rows none)
-unfolding under
-missed n [] none before apart = (apart, refl)
-missed n (row ∷ rest) none before apart =
-    let later = missed n rest none (before × (n ≡ row .0 → ⊥)) apart in
-    (later .0 .0, rw (ne-eqb n (row .0) (later .0 .1)) (later .1))
-
-pub no-row : {A : Type 0} (n : ℕ) (rows : List (ℕ × A)) (none o : A) (before : Type 0) → Apart n rows before → o ≡ none → o ≡ under n rows none
-no-row n rows none o before apart e = e ∙ missed n rows none before apart .1
-
--- a part that was lent, likewise
 module _ (rows : List (ℕ × Part)) (none : Part) (slots r : RefT (List ℕ)) where
   pub lent-row : (op n : ℕ) → op ≡ n → Lent (under n rows none) slots r → Lent (under op rows none) slots r
   lent-row op n e found = rw e found
 
   pub lent-none : (op : ℕ) (before : Type 0) → Apart op rows before → Lent none slots r → Lent (under op rows none) slots r
-  lent-none op before apart found = let is : none ≡ under op rows none = missed op rows none before apart .1 in rw (sym is) found
+  lent-none op before apart found = let is : none ≡ under op rows none = no-row op rows none none before apart refl in rw (sym is) found

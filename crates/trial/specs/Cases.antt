@@ -1,8 +1,6 @@
 -- What each operation of `replay` is in the table, by its number, which docs/REPLAY.md gives in hexadecimal digits: 16 is its 10. Assumes nothing.
 use Prim.Native.Nat.{ℕ}
-use mathlib.Core.Bool.{cond}
 use mathlib.Core.List.{List, [], _∷_}
-use lib.Dec.{eqb}
 use Rattle.slots.specs.Layout.{ring, vector}
 use lib.ListN.{take}
 use Rattle.table.specs.Tray.{Tray, Cursor, nowhere}
@@ -10,12 +8,8 @@ use Rattle.table.specs.Calls.{new, withCapacity, fromElem, look, len, isEmpty, 
 use Rattle.table.specs.Calls.{write, push, pushFront, pop, popFront, insert, remove, swapRemove, truncate, resize, clear, extend}
 use Rattle.table.specs.Calls.{iter, intoIter, stepFront, stepBack, peekFront, peekBack, append, splitOff, clone, same, equal}
 use Rattle.table.specs.Parts.{Part, lends, lendsAll}
+use Rattle.hex.specs.Rows.{under}
 use Rattle.table.specs.Does.{Outcome, Outcome2, refused, refused2, does, does2, made}
-
--- what stands under a number in a table, or what stands for none
-unfoldable pub under : {A : Type 0} → (n : ℕ) → List (ℕ × A) → (none : A) → A
-under n [] none = none
-under n (row ∷ rest) none = cond (eqb n (row .0)) (row .1) (under n rest none)
 
 -- the calls on a ring
 abbrev pub ringRows : (a x : ℕ) → Tray → List (ℕ × Outcome)

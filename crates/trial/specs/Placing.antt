@@ -5,7 +5,7 @@ use lib.ListN.{length, set, replicate}
 use Rattle.hex.specs.Put.{put}
 use Rattle.trial.specs.declared.desks.Desk.{Desk}
 use Rattle.trial.specs.declared.places.Placed.{Placed}
-use Rattle.trial.specs.Cases.{under}
+use Rattle.hex.specs.Rows.{under}
 
 -- how many of the lent slots each container has, the desk, and all of both lent runs
 pub record Places : Type 0 where

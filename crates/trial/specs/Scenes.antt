@@ -7,7 +7,8 @@ use Rattle.slots.specs.Layout.{ring, vector}
 use Rattle.table.specs.Tray.{Tray, Cursor}
 use Rattle.table.specs.Calls.{fromIter}
 use Rattle.table.specs.Does.{Outcome, Outcome2, refused2, does2}
-use Rattle.trial.specs.Cases.{under, ringCase, vectorCase, ringsCase, vectorsCase, ringWalk, vectorWalk}
+use Rattle.hex.specs.Rows.{under}
+use Rattle.trial.specs.Cases.{ringCase, vectorCase, ringsCase, vectorsCase, ringWalk, vectorWalk}
 
 pub record Scene : Type 0 where
   pub first : Tray

@@ -1,13 +1,14 @@
 -- `lines::call_said` meets its promise: each container has its kind and its place in it. Assumes nothing.
 use borrow.Author.Needs.{needs}
-use Rattle.call.specs.Lines.{under, callSays}
+use Rattle.hex.specs.Rows.{under}
+use Rattle.call.specs.Lines.{callSays}
 use Rattle.call.proofs.Says.{unknown}
 use Rattle.call.proofs.lines.call_said.Statement.{statement}
 use Rattle.call.proofs.lines.call_said.Tie as tie
 
 no-such : tie.Need-returns-5
 unfolding callSays
-no-such c = unknown _ _ _ _ (c .match .rest)
+no-such c = unknown _ _ _ (c .match .rest)
 
 pub call-said-spec : {M : Type 1} → statement M
 unfolding under callSays

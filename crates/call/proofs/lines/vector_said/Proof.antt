@@ -1,11 +1,11 @@
 -- `lines::vector_said` meets its promise: each number is looked up in the table of operations. Assumes nothing.
-use Rattle.call.specs.Lines.{under}
+use Rattle.hex.specs.Rows.{under}
 use Rattle.call.proofs.Says.{unknown}
 use Rattle.call.proofs.lines.vector_said.Statement.{statement}
 use Rattle.call.proofs.lines.vector_said.Tie as tie
 
 no-such : tie.Need-returns-13
-no-such c = unknown _ _ _ _ (c .match .rest)
+no-such c = unknown _ _ _ (c .match .rest)
 
 pub vector-said-spec : {M : Type 1} → statement M
 unfolding under

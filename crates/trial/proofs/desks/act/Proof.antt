@@ -1,7 +1,7 @@
 -- `desks::act` meets its promise: each arm is what the call does, put in its places. Assumes nothing.
 use borrow.Author.Needs.{needs}
-use Rattle.trial.specs.Cases.{under}
-use Rattle.trial.proofs.Rows.{row-is, no-row}
+use Rattle.hex.specs.Rows.{under}
+use Rattle.hex.proofs.Rows.{row-is, no-row}
 use Rattle.trial.proofs.Desked.{ring-did, vector-did, rings-did, vectors-did, none-did}
 use Rattle.trial.proofs.desks.act.Statement.{statement}
 use Rattle.trial.proofs.desks.act.Tie as tie

@@ -1,6 +1,6 @@
 -- `parts::lent` meets its promise: each arm lends what stands under its number. Assumes nothing.
 use borrow.Author.Needs.{needs}
-use Rattle.trial.specs.Cases.{under}
+use Rattle.hex.specs.Rows.{under}
 use Rattle.trial.proofs.Rows.{lent-row, lent-none}
 use Rattle.trial.proofs.parts.lent.Statement.{statement}
 use Rattle.trial.proofs.parts.lent.Tie as tie

@@ -1,7 +1,7 @@
 -- `places::place` meets its promise: each operation places one thing, and the rest stays. Assumes nothing.
 use borrow.Author.Needs.{needs}
-use Rattle.trial.specs.Cases.{under}
-use Rattle.trial.proofs.Rows.{row-is, no-row}
+use Rattle.hex.specs.Rows.{under}
+use Rattle.hex.proofs.Rows.{row-is, no-row}
 use Rattle.trial.proofs.Laid.{place-numbers, place-slot}
 use Rattle.trial.proofs.places.place.Statement.{statement}
 use Rattle.trial.proofs.places.place.Tie as tie

@@ -1,7 +1,7 @@
 -- `vectors::on_vector` meets its promise: each arm is one call of the library, and stands under its number. Assumes nothing.
 use borrow.Author.Needs.{needs}
-use Rattle.trial.specs.Cases.{under}
-use Rattle.trial.proofs.Rows.{row-is, no-row}
+use Rattle.hex.specs.Rows.{under}
+use Rattle.hex.proofs.Rows.{row-is, no-row}
 use Rattle.trial.proofs.Answered.{vector-none}
 use Rattle.trial.proofs.vectors.on_vector.Statement.{statement}
 use Rattle.trial.proofs.vectors.on_vector.Tie as tie

@@ -5,7 +5,9 @@ use trial::desks::Desk;
 use trial::lines::Asked;
 use trial::lines::Verdict;
 use trial::places::Placed;
-ghost use Prim.Native.Nat.{_≤_};
+use trial::tells::Told;
+ghost use Prim.Native.Nat.{_+_, _*_, _≤_};
+ghost use lib.ListN.{length};
 ghost use Rattle.trial.specs.Tells.{Enough};
 
 // Between two bytes: what is placed, the first 35 bytes of the line begun, which tell that it is too long, and whether the output takes more.
@@ -47,6 +49,23 @@ fn put(p: Placed, desk: Desk, out: &[u8], count: usize) -> After {
     }
 }
 
+// A call that has no text, by what it lends.
+fn told(q: Asked, d: Desk, slots: &mut [u32], theirs: &mut [u32], out: &mut [u8]) -> Told
+    requires { ⌜ 131 + 18 * length (now slots) + 9 * length (now theirs) ≤ length (now out) ⌝ }
+{
+    let op = q.op;
+    if op < 56 {
+        return trial::tells::tell(q, d, slots, theirs, out);
+    }
+    if op < 60 {
+        return trial::parts::tell_part(q, d, slots, theirs, out);
+    }
+    if op < 62 {
+        return trial::parts::tell_mut_part(q, d, slots, theirs, out);
+    }
+    trial::tells::tell(q, d, slots, theirs, out)
+}
+
 // A call on as many of the lent slots as the containers have.
 fn call(
     q: Asked,
@@ -64,23 +83,8 @@ fn call(
     let cap2 = least(p.cap2, 4200);
     let slots = &mut first[0..cap];
     let theirs = &mut second[0..cap2];
-    if op < 56 {
-        let t = trial::tells::tell(q, d, slots, theirs, out);
-        let desk = t.desk;
-        return put(p, desk, out, t.count);
-    }
-    if op < 60 {
-        let t = trial::parts::tell_part(q, d, slots, theirs, out);
-        let desk = t.desk;
-        return put(p, desk, out, t.count);
-    }
-    if op < 62 {
-        let t = trial::parts::tell_mut_part(q, d, slots, theirs, out);
-        let desk = t.desk;
-        return put(p, desk, out, t.count);
-    }
     if op < 128 {
-        let t = trial::tells::tell(q, d, slots, theirs, out);
+        let t = told(q, d, slots, theirs, out);
         let desk = t.desk;
         return put(p, desk, out, t.count);
     }

@@ -12,7 +12,7 @@ use Rattle.slots.specs.Layout.{ring, vector, slotOf, posOf, itself, entr
 use Rattle.slots.specs.Shift.{Reach, Filled}
 use Rattle.slots.specs.Copy.{Laid}
 use Rattle.slots.proofs.Words.{below?}
-use Rattle.slots.proofs.Placing.{Placing, placing, one-slot, seen, unseen, slot-inside, slot-slot, length-entries, entry}
+use Rattle.slots.proofs.Placing.{Placing, off-run, placing, seen, unseen, slot-inside, slot-slot, length-entries, entry}
 use Rattle.slots.proofs.Relaid.{laid}
 use Rattle.slots.proofs.Runs.{slot-run, slot-wraps}
 
@@ -86,19 +86,7 @@ lay-join place at a count s old mid new ha room m n = record {
 lay-run : (place pos : ℕ → ℕ) (s old new : List ℕ) → Placing (length old) place pos → (at count a : ℕ) → at + count ≤ length old
     → a + count ≤ length old → ((e : ℕ) → e < count → place (at + e) ≡ a + e) → Laid itself a count s old new → Laid place at count s old new
 lay-run place pos s old new p at count a fits room run m =
-    let off : (j : ℕ) → j < length old → ((at ≤ j) → (j < at + count) → ⊥) → getD new (place j) 0 ≡ getD old (place j) 0 =
-    λ j hj out.
-    ⊎-elim
-    (λ lt. m .low (place j) lt)
-    (λ (ge : a ≤ place j).
-    ⊎-elim
-    (λ (lt : place j < a + count).
-    let q : place (at + (place j - a)) ≡ a + (place j - a) = run (place j - a) (omega arith) in
-    let e = one-slot p j (at + (place j - a)) hj (omega arith) (omega arith) in
-    absurd (out (omega arith) (omega arith)))
-    (λ gt. m .high (place j) gt (p .inside j hj))
-    (below? (place j) (a + count)))
-    (below? (place j) a) in
+    let off = off-run old new p at count a fits run (m .low) (m .high) in
     record {
       long = m .long;
       low = λ j h. off j (omega arith) (λ q r. omega arith);

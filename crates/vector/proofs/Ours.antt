@@ -1,30 +1,19 @@
 -- Each call of this crate is an event of demand 3: what a caller learns of it is what `Ours` asks. Assumes nothing.
-use Prim.Native.Nat.{ℕ, _<_}
-use mathlib.Core.Path.{_≡_, refl, sym, _∙_, ap}
-use mathlib.Core.Bool.{true}
-use lib.ListN.{length}
+use Prim.Native.Nat.{ℕ}
+use mathlib.Core.Path.{refl}
 use contract.Lifetimes.{Lfts}
 use denote.Ref.{now}
 use denote.Triple.Clauses.{AtExit}
 use borrow.Fn.World.{ArgsD, ResD}
 use Rattle.slots.specs.Layout.{vector}
-use Rattle.table.specs.Tray.{Tray}
-use Rattle.table.specs.Calls.{Call, has, look, len, isEmpty, read, reserve, tryReserve, tryReserveExact, range, new, withCapacity, fromElem}
+use Rattle.table.specs.Calls.{look, len, isEmpty, read, reserve, tryReserve, tryReserveExact, range, new, withCapacity, fromElem}
 use Rattle.table.specs.Calls.{write, push, pop, insert, remove, swapRemove, truncate, resize, clear, extend}
-use Rattle.table.specs.Does.{Outcome, does}
-use Rattle.table.specs.World.{World, Container, at, make, on, Ours}
+use Rattle.table.specs.World.{World, make, on, Ours}
+use Rattle.table.proofs.Named.{Is, ours-on}
 use Rattle.vector.specs.Seen.{tray, seen}
 use Rattle.vector.proofs.Vector as fns
 
--- container i of the world is this tray
-abbrev Is : World → ℕ → Tray → Type 0
-Is w i t = (i < length w) × (at w i ≡ record { kind = vector; tray = t })
-
--- a call that vectors have, with the outcome that the table says
-ours : (w : World) (i : ℕ) (t : Tray) (call : Call) (o : Outcome) → Is w i t → has call vector ≡ true → o ≡ does vector call t → Ours w (on i call o)
-ours w i t call o is h e =
-    (is .0, ap (λ (b : Container). has call (b .kind)) (is .1) ∙ h, e ∙ ap (λ (b : Container). does (b .kind) call (b .tray)) (sym (is .1)))
-
+-- In what follows a are the arguments, r is the result, and e the arguments as they are at the return.
 module _ (w : World) (κs : Lfts 1) where
   pub new-ours : (a : ArgsD fns.new.signature κs) (r : ResD fns.new.signature κs) (e : AtExit fns.new.ended κs)
       → fns.new.Reads.Learnt κs a r e → Ours w (make vector new (now (a .0)) (seen r (now (a .0))))
@@ -40,70 +29,70 @@ module _ (w : World) (κs : Lfts 1) where
 
 module _ (w : World) (i : ℕ) (κs : Lfts 1) where
   pub len-ours : (a : ArgsD fns.len.signature κs) (r : ResD fns.len.signature κs) (e : AtExit fns.len.ended κs)
-      → Is w i (tray (a .0) (now (a .1 .0))) → fns.len.Reads.Learnt κs a r e → Ours w (on i (look len) (seen r (now (a .1 .0))))
-  len-ours a r e is learnt = ours w i _ _ _ is refl learnt
+      → Is w i vector (tray (a .0) (now (a .1 .0))) → fns.len.Reads.Learnt κs a r e → Ours w (on i (look len) (seen r (now (a .1 .0))))
+  len-ours a r e is learnt = ours-on w i _ _ _ _ refl is learnt
 
   pub is-empty-ours : (a : ArgsD fns.is_empty.signature κs) (r : ResD fns.is_empty.signature κs) (e : AtExit fns.is_empty.ended κs)
-      → Is w i (tray (a .0) (now (a .1 .0))) → fns.is_empty.Reads.Learnt κs a r e → Ours w (on i (look isEmpty) (seen r (now (a .1 .0))))
-  is-empty-ours a r e is learnt = ours w i _ _ _ is refl learnt
+      → Is w i vector (tray (a .0) (now (a .1 .0))) → fns.is_empty.Reads.Learnt κs a r e → Ours w (on i (look isEmpty) (seen r (now (a .1 .0))))
+  is-empty-ours a r e is learnt = ours-on w i _ _ _ _ refl is learnt
 
   pub read-ours : (a : ArgsD fns.read.signature κs) (r : ResD fns.read.signature κs) (e : AtExit fns.read.ended κs)
-      → Is w i (tray (a .0) (now (a .1 .0))) → fns.read.Reads.Learnt κs a r e → Ours w (on i (look (read (a .1 .1 .0))) (seen r (now (a .1 .0))))
-  read-ours a r e is learnt = ours w i _ _ _ is refl learnt
+      → Is w i vector (tray (a .0) (now (a .1 .0))) → fns.read.Reads.Learnt κs a r e → Ours w (on i (look (read (a .1 .1 .0))) (seen r (now (a .1 .0))))
+  read-ours a r e is learnt = ours-on w i _ _ _ _ refl is learnt
 
   pub reserve-ours : (a : ArgsD fns.reserve.signature κs) (r : ResD fns.reserve.signature κs) (e : AtExit fns.reserve.ended κs)
-      → Is w i (tray (a .0) (now (a .1 .0))) → fns.reserve.Reads.Learnt κs a r e → Ours w (on i (look (reserve (a .1 .1 .0))) (seen r (now (a .1 .0))))
-  reserve-ours a r e is learnt = ours w i _ _ _ is refl learnt
+      → Is w i vector (tray (a .0) (now (a .1 .0))) → fns.reserve.Reads.Learnt κs a r e → Ours w (on i (look (reserve (a .1 .1 .0))) (seen r (now (a .1 .0))))
+  reserve-ours a r e is learnt = ours-on w i _ _ _ _ refl is learnt
 
   pub try-reserve-ours : (a : ArgsD fns.try_reserve.signature κs) (r : ResD fns.try_reserve.signature κs) (e : AtExit fns.try_reserve.ended κs)
-      → Is w i (tray (a .0) (now (a .1 .0))) → fns.try_reserve.Reads.Learnt κs a r e → Ours w (on i (look (tryReserve (a .1 .1 .0))) (seen r (now (a .1 .0))))
-  try-reserve-ours a r e is learnt = ours w i _ _ _ is refl learnt
+      → Is w i vector (tray (a .0) (now (a .1 .0))) → fns.try_reserve.Reads.Learnt κs a r e → Ours w (on i (look (tryReserve (a .1 .1 .0))) (seen r (now (a .1 .0))))
+  try-reserve-ours a r e is learnt = ours-on w i _ _ _ _ refl is learnt
 
   pub try-reserve-exact-ours : (a : ArgsD fns.try_reserve_exact.signature κs) (r : ResD fns.try_reserve_exact.signature κs) (e : AtExit fns.try_reserve_exact.ended κs)
-      → Is w i (tray (a .0) (now (a .1 .0))) → fns.try_reserve_exact.Reads.Learnt κs a r e → Ours w (on i (look (tryReserveExact (a .1 .1 .0))) (seen r (now (a .1 .0))))
-  try-reserve-exact-ours a r e is learnt = ours w i _ _ _ is refl learnt
+      → Is w i vector (tray (a .0) (now (a .1 .0))) → fns.try_reserve_exact.Reads.Learnt κs a r e → Ours w (on i (look (tryReserveExact (a .1 .1 .0))) (seen r (now (a .1 .0))))
+  try-reserve-exact-ours a r e is learnt = ours-on w i _ _ _ _ refl is learnt
 
   pub ask-range-ours : (a : ArgsD fns.ask_range.signature κs) (r : ResD fns.ask_range.signature κs) (e : AtExit fns.ask_range.ended κs)
-      → Is w i (tray (a .0) (now (a .1 .0))) → fns.ask_range.Reads.Learnt κs a r e → Ours w (on i (look (range (a .1 .1 .0) (a .1 .1 .1 .0))) (seen r (now (a .1 .0))))
-  ask-range-ours a r e is learnt = ours w i _ _ _ is refl learnt
+      → Is w i vector (tray (a .0) (now (a .1 .0))) → fns.ask_range.Reads.Learnt κs a r e → Ours w (on i (look (range (a .1 .1 .0) (a .1 .1 .1 .0))) (seen r (now (a .1 .0))))
+  ask-range-ours a r e is learnt = ours-on w i _ _ _ _ refl is learnt
 
   pub write-ours : (a : ArgsD fns.write.signature κs) (r : ResD fns.write.signature κs) (e : AtExit fns.write.ended κs)
-      → Is w i (tray (a .0) (now (a .1 .0))) → fns.write.Reads.Learnt κs a r e → Ours w (on i (write (a .1 .1 .0) (a .1 .1 .1 .0)) (seen r (now (e .1 .0))))
-  write-ours a r e is learnt = ours w i _ _ _ is refl learnt
+      → Is w i vector (tray (a .0) (now (a .1 .0))) → fns.write.Reads.Learnt κs a r e → Ours w (on i (write (a .1 .1 .0) (a .1 .1 .1 .0)) (seen r (now (e .1 .0))))
+  write-ours a r e is learnt = ours-on w i _ _ _ _ refl is learnt
 
   pub push-ours : (a : ArgsD fns.push.signature κs) (r : ResD fns.push.signature κs) (e : AtExit fns.push.ended κs)
-      → Is w i (tray (a .0) (now (a .1 .0))) → fns.push.Reads.Learnt κs a r e → Ours w (on i (push (a .1 .1 .0)) (seen r (now (e .1 .0))))
-  push-ours a r e is learnt = ours w i _ _ _ is refl learnt
+      → Is w i vector (tray (a .0) (now (a .1 .0))) → fns.push.Reads.Learnt κs a r e → Ours w (on i (push (a .1 .1 .0)) (seen r (now (e .1 .0))))
+  push-ours a r e is learnt = ours-on w i _ _ _ _ refl is learnt
 
   pub pop-ours : (a : ArgsD fns.pop.signature κs) (r : ResD fns.pop.signature κs) (e : AtExit fns.pop.ended κs)
-      → Is w i (tray (a .0) (now (a .1 .0))) → fns.pop.Reads.Learnt κs a r e → Ours w (on i pop (seen r (now (e .1 .0))))
-  pop-ours a r e is learnt = ours w i _ _ _ is refl learnt
+      → Is w i vector (tray (a .0) (now (a .1 .0))) → fns.pop.Reads.Learnt κs a r e → Ours w (on i pop (seen r (now (e .1 .0))))
+  pop-ours a r e is learnt = ours-on w i _ _ _ _ refl is learnt
 
   pub insert-ours : (a : ArgsD fns.insert.signature κs) (r : ResD fns.insert.signature κs) (e : AtExit fns.insert.ended κs)
-      → Is w i (tray (a .0) (now (a .1 .0))) → fns.insert.Reads.Learnt κs a r e → Ours w (on i (insert (a .1 .1 .0) (a .1 .1 .1 .0)) (seen r (now (e .1 .0))))
-  insert-ours a r e is learnt = ours w i _ _ _ is refl learnt
+      → Is w i vector (tray (a .0) (now (a .1 .0))) → fns.insert.Reads.Learnt κs a r e → Ours w (on i (insert (a .1 .1 .0) (a .1 .1 .1 .0)) (seen r (now (e .1 .0))))
+  insert-ours a r e is learnt = ours-on w i _ _ _ _ refl is learnt
 
   pub remove-ours : (a : ArgsD fns.remove.signature κs) (r : ResD fns.remove.signature κs) (e : AtExit fns.remove.ended κs)
-      → Is w i (tray (a .0) (now (a .1 .0))) → fns.remove.Reads.Learnt κs a r e → Ours w (on i (remove (a .1 .1 .0)) (seen r (now (e .1 .0))))
-  remove-ours a r e is learnt = ours w i _ _ _ is refl learnt
+      → Is w i vector (tray (a .0) (now (a .1 .0))) → fns.remove.Reads.Learnt κs a r e → Ours w (on i (remove (a .1 .1 .0)) (seen r (now (e .1 .0))))
+  remove-ours a r e is learnt = ours-on w i _ _ _ _ refl is learnt
 
   pub swap-remove-ours : (a : ArgsD fns.swap_remove.signature κs) (r : ResD fns.swap_remove.signature κs) (e : AtExit fns.swap_remove.ended κs)
-      → Is w i (tray (a .0) (now (a .1 .0))) → fns.swap_remove.Reads.Learnt κs a r e → Ours w (on i (swapRemove (a .1 .1 .0)) (seen r (now (e .1 .0))))
-  swap-remove-ours a r e is learnt = ours w i _ _ _ is refl learnt
+      → Is w i vector (tray (a .0) (now (a .1 .0))) → fns.swap_remove.Reads.Learnt κs a r e → Ours w (on i (swapRemove (a .1 .1 .0)) (seen r (now (e .1 .0))))
+  swap-remove-ours a r e is learnt = ours-on w i _ _ _ _ refl is learnt
 
   pub truncate-ours : (a : ArgsD fns.truncate.signature κs) (r : ResD fns.truncate.signature κs) (e : AtExit fns.truncate.ended κs)
-      → Is w i (tray (a .0) (now (a .1 .0))) → fns.truncate.Reads.Learnt κs a r e → Ours w (on i (truncate (a .1 .1 .0)) (seen r (now (e .1 .0))))
-  truncate-ours a r e is learnt = ours w i _ _ _ is refl learnt
+      → Is w i vector (tray (a .0) (now (a .1 .0))) → fns.truncate.Reads.Learnt κs a r e → Ours w (on i (truncate (a .1 .1 .0)) (seen r (now (e .1 .0))))
+  truncate-ours a r e is learnt = ours-on w i _ _ _ _ refl is learnt
 
   pub resize-ours : (a : ArgsD fns.resize.signature κs) (r : ResD fns.resize.signature κs) (e : AtExit fns.resize.ended κs)
-      → Is w i (tray (a .0) (now (a .1 .0))) → fns.resize.Reads.Learnt κs a r e → Ours w (on i (resize (a .1 .1 .0) (a .1 .1 .1 .0)) (seen r (now (e .1 .0))))
-  resize-ours a r e is learnt = ours w i _ _ _ is refl learnt
+      → Is w i vector (tray (a .0) (now (a .1 .0))) → fns.resize.Reads.Learnt κs a r e → Ours w (on i (resize (a .1 .1 .0) (a .1 .1 .1 .0)) (seen r (now (e .1 .0))))
+  resize-ours a r e is learnt = ours-on w i _ _ _ _ refl is learnt
 
   pub clear-ours : (a : ArgsD fns.clear.signature κs) (r : ResD fns.clear.signature κs) (e : AtExit fns.clear.ended κs)
-      → Is w i (tray (a .0) (now (a .1 .0))) → fns.clear.Reads.Learnt κs a r e → Ours w (on i clear (seen r (now (e .1 .0))))
-  clear-ours a r e is learnt = ours w i _ _ _ is refl learnt
+      → Is w i vector (tray (a .0) (now (a .1 .0))) → fns.clear.Reads.Learnt κs a r e → Ours w (on i clear (seen r (now (e .1 .0))))
+  clear-ours a r e is learnt = ours-on w i _ _ _ _ refl is learnt
 
 module _ (w : World) (i : ℕ) (κs : Lfts 2) where
   pub extend-from-slice-ours : (a : ArgsD fns.extend_from_slice.signature κs) (r : ResD fns.extend_from_slice.signature κs) (e : AtExit fns.extend_from_slice.ended κs)
-      → Is w i (tray (a .0) (now (a .1 .0))) → fns.extend_from_slice.Reads.Learnt κs a r e → Ours w (on i (extend (now (a .1 .1 .0))) (seen r (now (e .1 .0))))
-  extend-from-slice-ours a r e is learnt = ours w i _ _ _ is refl learnt
+      → Is w i vector (tray (a .0) (now (a .1 .0))) → fns.extend_from_slice.Reads.Learnt κs a r e → Ours w (on i (extend (now (a .1 .1 .0))) (seen r (now (e .1 .0))))
+  extend-from-slice-ours a r e is learnt = ours-on w i _ _ _ _ refl is learnt

@@ -1,4 +1,4 @@
--- `cursors::Cursor::ring_from_iter` meets its promise. Assumes nothing.
+-- `Cursor::ring_from_iter` meets its promise: nothing remains, or the run that remains is copied to T, a law for each. Assumes nothing.
 use borrow.Author.Needs.{needs}
 use Rattle.table.specs.Does.{does2}
 use Rattle.table.proofs.Valid.{state}

@@ -1,4 +1,4 @@
--- `cursors::Cursor::ring_peek_back` meets its promise. Assumes nothing.
+-- `Cursor::ring_peek_back` meets its promise: the slot of position back − 1 − k holds the entry. Assumes nothing.
 use borrow.Author.Needs.{needs}
 use Rattle.table.specs.Does.{does}
 use Rattle.table.proofs.Valid.{state}

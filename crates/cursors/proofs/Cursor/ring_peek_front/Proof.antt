@@ -1,4 +1,4 @@
--- `cursors::Cursor::ring_peek_front` meets its promise. Assumes nothing.
+-- `Cursor::ring_peek_front` meets its promise: the slot of position front + k holds the entry. Assumes nothing.
 use borrow.Author.Needs.{needs}
 use Rattle.table.specs.Does.{does}
 use Rattle.table.proofs.Valid.{state}

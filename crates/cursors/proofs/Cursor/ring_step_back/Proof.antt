@@ -1,4 +1,4 @@
--- `Cursor::ring_step_back` meets its promise. Assumes nothing.
+-- `Cursor::ring_step_back` meets its promise: the slot of position back − 1 holds the entry, and back moves there. Assumes nothing.
 use borrow.Author.Needs.{needs}
 use Rattle.table.specs.Does.{does}
 use Rattle.table.proofs.Valid.{state}

@@ -1,4 +1,4 @@
--- `Cursor::ring_step_front` meets its promise. Assumes nothing.
+-- `Cursor::ring_step_front` meets its promise: the slot of position front holds the entry, and front moves one on. Assumes nothing.
 use borrow.Author.Needs.{needs}
 use Rattle.table.specs.Does.{does}
 use Rattle.table.proofs.Valid.{state}

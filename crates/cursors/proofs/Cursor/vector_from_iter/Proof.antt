@@ -1,4 +1,4 @@
--- `cursors::Cursor::vector_from_iter` meets its promise. Assumes nothing.
+-- `Cursor::vector_from_iter` meets its promise: the run that remains is copied to T. Assumes nothing.
 use borrow.Author.Needs.{needs}
 use Rattle.table.specs.Does.{does2}
 use Rattle.table.proofs.Valid.{state}

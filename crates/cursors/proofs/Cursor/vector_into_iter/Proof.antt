@@ -1,4 +1,4 @@
--- `cursors::Cursor::vector_into_iter` meets its promise. Assumes nothing.
+-- `Cursor::vector_into_iter` meets its promise: nothing is stored, and the cursor spans the list. Assumes nothing.
 use borrow.Author.Needs.{needs}
 use Rattle.table.specs.Does.{does}
 use Rattle.table.proofs.Looks.{into-iter-done}

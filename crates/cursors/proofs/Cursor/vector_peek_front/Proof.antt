@@ -1,4 +1,4 @@
--- `cursors::Cursor::vector_peek_front` meets its promise. Assumes nothing.
+-- `Cursor::vector_peek_front` meets its promise: slot front + k holds the entry. Assumes nothing.
 use borrow.Author.Needs.{needs}
 use Rattle.table.specs.Does.{does}
 use Rattle.table.proofs.Valid.{state}

@@ -1,4 +1,4 @@
--- `pairs::rings::append` meets its promise. Assumes nothing.
+-- `rings::append` meets its promise: T is empty, or its run is copied behind the entries and filled with 0, a law for each. Assumes nothing.
 use borrow.Author.Needs.{needs}
 use Rattle.table.specs.Does.{does2}
 use Rattle.table.proofs.Valid.{state}

@@ -1,4 +1,4 @@
--- `pairs::rings::clone` meets its promise. Assumes nothing.
+-- `rings::clone` meets its promise: there is nothing to copy, or T gets a copy of the run, a law for each. Assumes nothing.
 use borrow.Author.Needs.{needs}
 use Rattle.table.specs.Does.{does2}
 use Rattle.table.proofs.Valid.{state}

@@ -1,4 +1,4 @@
--- `pairs::rings::same` meets its promise. Assumes nothing.
+-- `rings::same` meets its promise: capacity, head or length differ, or the comparison of the runs decides, a law for each. Assumes nothing.
 use borrow.Author.Needs.{needs}
 use Rattle.table.specs.Does.{does2}
 use Rattle.table.proofs.Valid.{state}

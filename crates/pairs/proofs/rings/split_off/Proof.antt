@@ -1,4 +1,4 @@
--- `pairs::rings::split_off` meets its promise. Assumes nothing.
+-- `rings::split_off` meets its promise: nothing goes over, or the run from at on is copied to T and filled with 0, a law for each. Assumes nothing.
 use borrow.Author.Needs.{needs}
 use Rattle.table.specs.Does.{does2}
 use Rattle.table.proofs.Valid.{state}

@@ -1,4 +1,4 @@
--- `pairs::vectors::append` meets its promise. Assumes nothing.
+-- `vectors::append` meets its promise: T's run is copied behind the entries and filled with 0. Assumes nothing.
 use borrow.Author.Needs.{needs}
 use Rattle.table.specs.Does.{does2}
 use Rattle.table.proofs.Valid.{state}

@@ -1,4 +1,4 @@
--- `pairs::vectors::clone` meets its promise. Assumes nothing.
+-- `vectors::clone` meets its promise: T gets a copy of the run. Assumes nothing.
 use borrow.Author.Needs.{needs}
 use Rattle.table.specs.Does.{does2}
 use Rattle.table.proofs.Valid.{state}

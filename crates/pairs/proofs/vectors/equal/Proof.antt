@@ -1,4 +1,4 @@
--- `pairs::vectors::equal` meets its promise. Assumes nothing.
+-- `vectors::equal` meets its promise: the comparison of the two parts decides, a law for each answer. Assumes nothing.
 use borrow.Author.Needs.{needs}
 use lib.ListN.{length-take}
 use Rattle.table.specs.Does.{does2}

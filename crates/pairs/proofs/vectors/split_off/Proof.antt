@@ -1,4 +1,4 @@
--- `pairs::vectors::split_off` meets its promise. Assumes nothing.
+-- `vectors::split_off` meets its promise: the run from at on is copied to T and filled with 0. Assumes nothing.
 use borrow.Author.Needs.{needs}
 use Rattle.table.specs.Does.{does2}
 use Rattle.table.proofs.Valid.{state}

@@ -1,4 +1,4 @@
--- `Ring::clear` meets its promise. Assumes nothing.
+-- `Ring::clear` meets its promise: there is nothing to clear, or the run of all entries is filled with 0, a law for each. Assumes nothing.
 use borrow.Author.Needs.{needs}
 use Rattle.table.specs.Does.{does}
 use Rattle.table.proofs.Valid.{state}

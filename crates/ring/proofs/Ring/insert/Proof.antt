@@ -1,4 +1,4 @@
--- `Ring::insert` meets its promise. Assumes nothing.
+-- `Ring::insert` meets its promise: the entries before i shift or those from i on, a law for each, and x goes between. Assumes nothing.
 use borrow.Author.Needs.{needs}
 use Rattle.table.specs.Does.{does}
 use Rattle.table.proofs.Valid.{state}

@@ -1,4 +1,4 @@
--- `Ring::len` meets its promise. Assumes nothing.
+-- `Ring::len` meets its promise: nothing is stored, and the length is the list's. Assumes nothing.
 use borrow.Author.Needs.{needs}
 use Rattle.table.specs.Does.{does}
 use Rattle.table.proofs.Valid.{state}

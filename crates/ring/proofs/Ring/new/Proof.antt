@@ -1,4 +1,4 @@
--- `Ring::new` meets its promise. Assumes nothing.
+-- `Ring::new` meets its promise: no slot is touched, and the list is empty. Assumes nothing.
 use borrow.Author.Needs.{needs}
 use Rattle.table.specs.Does.{made}
 use Rattle.table.proofs.Made.{new-done}

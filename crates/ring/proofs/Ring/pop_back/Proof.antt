@@ -1,4 +1,4 @@
--- `Ring::pop_back` meets its promise. Assumes nothing.
+-- `Ring::pop_back` meets its promise: 0 is stored in the slot of the last entry. Assumes nothing.
 use borrow.Author.Needs.{needs}
 use Rattle.table.specs.Does.{does}
 use Rattle.table.proofs.Valid.{state}

@@ -1,4 +1,4 @@
--- `Ring::pop_front` meets its promise. Assumes nothing.
+-- `Ring::pop_front` meets its promise: 0 is stored in the head's slot, and the next slot becomes the head. Assumes nothing.
 use borrow.Author.Needs.{needs}
 use Rattle.table.specs.Does.{does}
 use Rattle.table.proofs.Valid.{state}

@@ -1,4 +1,4 @@
--- `Ring::push_back` meets its promise. Assumes nothing.
+-- `Ring::push_back` meets its promise: one store in the slot of position n, which was free. Assumes nothing.
 use borrow.Author.Needs.{needs}
 use Rattle.table.specs.Does.{does}
 use Rattle.table.proofs.Valid.{state}

@@ -1,4 +1,4 @@
--- `Ring::push_front` meets its promise. Assumes nothing.
+-- `Ring::push_front` meets its promise: one store in the slot before the head, which becomes the head. Assumes nothing.
 use borrow.Author.Needs.{needs}
 use Rattle.table.specs.Does.{does}
 use Rattle.table.proofs.Valid.{state}

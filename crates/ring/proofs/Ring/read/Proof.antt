@@ -1,4 +1,4 @@
--- `Ring::read` meets its promise. Assumes nothing.
+-- `Ring::read` meets its promise: the slot of position i holds its entry. Assumes nothing.
 use borrow.Author.Needs.{needs}
 use Rattle.table.specs.Does.{does}
 use Rattle.table.proofs.Valid.{state}

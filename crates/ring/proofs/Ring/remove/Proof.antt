@@ -1,4 +1,4 @@
--- `Ring::remove` meets its promise. Assumes nothing.
+-- `Ring::remove` meets its promise: the entries before i shift or those after it, a law for each, and the slot set free gets 0. Assumes nothing.
 use borrow.Author.Needs.{needs}
 use Rattle.table.specs.Does.{does}
 use Rattle.table.proofs.Valid.{state}

@@ -1,4 +1,4 @@
--- `Ring::truncate` meets its promise. Assumes nothing.
+-- `Ring::truncate` meets its promise: all stay, or the run from k on is filled with 0, a law for each. Assumes nothing.
 use borrow.Author.Needs.{needs}
 use Rattle.table.specs.Does.{does}
 use Rattle.table.proofs.Valid.{state}

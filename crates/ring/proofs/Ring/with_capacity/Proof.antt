@@ -1,4 +1,4 @@
--- `Ring::with_capacity` meets its promise. Assumes nothing.
+-- `Ring::with_capacity` meets its promise: its two refusals in their order; no slot is touched, and the list is empty. Assumes nothing.
 use borrow.Author.Needs.{needs}
 use Rattle.table.specs.Does.{made}
 use Rattle.table.proofs.Made.{with-capacity-done}

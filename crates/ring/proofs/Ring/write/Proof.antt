@@ -1,4 +1,4 @@
--- `Ring::write` meets its promise. Assumes nothing.
+-- `Ring::write` meets its promise: one store in the slot of position i. Assumes nothing.
 use borrow.Author.Needs.{needs}
 use Rattle.table.specs.Does.{does}
 use Rattle.table.proofs.Valid.{state}

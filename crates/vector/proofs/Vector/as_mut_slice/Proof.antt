@@ -1,4 +1,4 @@
--- `Vector::as_mut_slice` meets its promise. Assumes nothing.
+-- `Vector::as_mut_slice` meets its promise: the part of all entries, or the empty one at slot 0. Assumes nothing.
 use borrow.Author.Needs.{needs}
 use Rattle.table.proofs.Valid.{state}
 use Rattle.vector.proofs.Lending.{all-within, lending}

@@ -1,4 +1,4 @@
--- `Vector::ask_range` meets its promise. Assumes nothing.
+-- `Vector::ask_range` meets its promise: nothing is stored, and both ways astray are the row's one refusal. Assumes nothing.
 use borrow.Author.Needs.{needs}
 use Rattle.table.specs.Does.{does}
 use Rattle.table.proofs.Looks.{range-done}

@@ -1,4 +1,4 @@
--- `Vector::clear` meets its promise. Assumes nothing.
+-- `Vector::clear` meets its promise: the run of all entries is filled with 0. Assumes nothing.
 use borrow.Author.Needs.{needs}
 use Rattle.table.specs.Does.{does}
 use Rattle.table.proofs.Valid.{state}

@@ -1,4 +1,4 @@
--- `Vector::extend_from_slice` meets its promise. Assumes nothing.
+-- `Vector::extend_from_slice` meets its promise: the run behind the entries gets a copy of the slice. Assumes nothing.
 use borrow.Author.Needs.{needs}
 use Rattle.table.specs.Does.{does}
 use Rattle.table.proofs.Valid.{state}

@@ -1,4 +1,4 @@
--- `Vector::from_elem` meets its promise. Assumes nothing.
+-- `Vector::from_elem` meets its promise: the run of the first k slots is filled with x. Assumes nothing.
 use borrow.Author.Needs.{needs}
 use Rattle.table.specs.Does.{made}
 use Rattle.table.proofs.Made.{from-elem-done}

@@ -1,4 +1,4 @@
--- `Vector::insert` meets its promise. Assumes nothing.
+-- `Vector::insert` meets its promise: the run from i on shifts by one, and x goes to slot i. Assumes nothing.
 use borrow.Author.Needs.{needs}
 use Rattle.table.specs.Does.{does}
 use Rattle.table.proofs.Shifted.{vector-insert-done}

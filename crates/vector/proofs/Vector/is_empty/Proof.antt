@@ -1,4 +1,4 @@
--- `Vector::is_empty` meets its promise. Assumes nothing.
+-- `Vector::is_empty` meets its promise: nothing is stored, and a law for each answer. Assumes nothing.
 use borrow.Author.Needs.{needs}
 use Rattle.table.specs.Does.{does}
 use Rattle.table.proofs.Looks.{empty-done, filled-done}

@@ -1,4 +1,4 @@
--- `Vector::pop` meets its promise. Assumes nothing.
+-- `Vector::pop` meets its promise: 0 is stored in the last entry's slot. Assumes nothing.
 use borrow.Author.Needs.{needs}
 use Rattle.table.specs.Does.{does}
 use Rattle.table.proofs.Valid.{state}

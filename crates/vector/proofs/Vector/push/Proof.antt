@@ -1,4 +1,4 @@
--- `Vector::push` meets its promise. Assumes nothing.
+-- `Vector::push` meets its promise: one store in slot n, which was free. Assumes nothing.
 use borrow.Author.Needs.{needs}
 use Rattle.table.specs.Does.{does}
 use Rattle.table.proofs.Valid.{state}

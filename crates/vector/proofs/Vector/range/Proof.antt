@@ -1,4 +1,4 @@
--- `Vector::range` meets its promise. Assumes nothing.
+-- `Vector::range` meets its promise: the part asked for, or the empty one at slot 0: by the tests that tell which. Assumes nothing.
 use borrow.Author.Needs.{needs}
 use Rattle.table.proofs.Valid.{state}
 use Rattle.vector.proofs.Lending.{lending}

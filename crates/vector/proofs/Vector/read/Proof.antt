@@ -1,4 +1,4 @@
--- `Vector::read` meets its promise. Assumes nothing.
+-- `Vector::read` meets its promise: slot i holds the entry of position i. Assumes nothing.
 use borrow.Author.Needs.{needs}
 use Rattle.table.specs.Does.{does}
 use Rattle.table.proofs.Valid.{state}

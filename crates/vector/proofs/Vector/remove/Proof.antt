@@ -1,4 +1,4 @@
--- `Vector::remove` meets its promise. Assumes nothing.
+-- `Vector::remove` meets its promise: the run after i shifts by one, and the last slot gets 0. Assumes nothing.
 use borrow.Author.Needs.{needs}
 use Rattle.table.specs.Does.{does}
 use Rattle.table.proofs.Valid.{state}

@@ -1,4 +1,4 @@
--- `Vector::reserve` meets its promise. Assumes nothing.
+-- `Vector::reserve` meets its promise: nothing is stored, and the room left is the row's difference. Assumes nothing.
 use borrow.Author.Needs.{needs}
 use Rattle.table.specs.Does.{does}
 use Rattle.table.proofs.Valid.{state}

@@ -1,4 +1,4 @@
--- `Vector::resize` meets its promise. Assumes nothing.
+-- `Vector::resize` meets its promise: the run that goes is filled with 0, or that which comes with x, a law for each. Assumes nothing.
 use borrow.Author.Needs.{needs}
 use Rattle.table.specs.Does.{does}
 use Rattle.table.proofs.Valid.{state}

@@ -1,4 +1,4 @@
--- `Vector::swap_remove` meets its promise. Assumes nothing.
+-- `Vector::swap_remove` meets its promise: the last entry goes to slot i, unless it is the one removed, a law for each. Assumes nothing.
 use borrow.Author.Needs.{needs}
 use lib.ListN.{length-set}
 use Rattle.table.specs.Does.{does}

@@ -1,4 +1,4 @@
--- `Vector::write` meets its promise. Assumes nothing.
+-- `Vector::write` meets its promise: one store in slot i. Assumes nothing.
 use borrow.Author.Needs.{needs}
 use Rattle.table.specs.Does.{does}
 use Rattle.table.proofs.Valid.{state}

@@ -17,7 +17,8 @@ run:
 	@rt check tray >&2
 	@if [ "$$(uname -m)" = x86_64 ]; then target/bin/tray <crates/tray/stdin; else cat target/log/tray.stdout; fi | python3 tools/show-run crates/tray/stdin
 
-# The proved calls against Rust's own containers, on x86-64 with rustc: prints the ratios and writes docs/PERFORMANCE.md.
+# The proved calls against Rust's own containers, with rustc, on x86-64 or 64-bit Arm: prints the ratios and writes docs/PERFORMANCE.md. Archives are
+# x86-64; on Arm the same module is compiled for Arm (bench/native).
 bench:
 	@bench/run
 

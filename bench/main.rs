@@ -151,10 +151,13 @@ fn main() {
         .replace("{processor}", &said("BENCH_PROCESSOR"))
         .replace("{rustc}", &said("BENCH_RUSTC"))
         .replace("{rattle}", &said("BENCH_RATTLE"))
+        .replace("{built}", &said("BENCH_BUILT"))
+        .replace("{plain}", &said("BENCH_PLAIN"))
         .replace("{arrayvec}", &said("BENCH_ARRAYVEC"))
         .replace("{rounds}", &(rounds * PASSES).to_string())
         .replace("{waiting}", &if waiting.is_empty() { "none".into() } else { waiting.join("; ") })
         .replace("{table}", table.trim_end())
-        .replace("{short}", short.trim_end());
+        .replace("{short}", short.trim_end())
+        .replace("{earlier}", if cfg!(target_arch = "x86_64") { "" } else { concat!("\n", include_str!("earlier.md")) });
     std::fs::write(file, paper).expect("the paper cannot be written");
 }

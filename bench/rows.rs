@@ -49,7 +49,8 @@ macro_rules! side {
 
 const SLOT: &str = "the slot's division, which request 06 takes away; then the one test before the work, which asks of a state what Rust's type has settled: two or three comparisons more";
 const ENDS: &str = "the slot's division, which request 06 takes away; then the freed slot, which paper 01 has set to 0 and Rust leaves as it was, and the one test before the work, which asks of a state what Rust's type has settled";
-const STATE: &str = "the one test before the work, which asks of a state what Rust's type has settled: one or two comparisons more; where there are two in all, the compiler joins them by flags";
+const STATE: &str = "the one test before the work, which asks of a state what Rust's type has settled: one or two comparisons more";
+const STACK: &str = "the one test before the work, which asks of a state what Rust's type has settled: one or two comparisons more; and the freed slot, which paper 01 has set to 0 and Rust leaves as it was";
 const COPY: &str = "the test of the state and of the room; the copy is one memmove, where Rust calls memcpy";
 const ZERO: &str = "paper 01 has every freed slot hold 0: one memset more, since Rust leaves it as it was";
 const CLONE: &str = "the slot's divisions, which request 06 takes away, and the test of two states; the copy is a memmove for each run of slots";
@@ -67,20 +68,20 @@ pub fn rows() -> Vec<Row> {
         row!("append", APPEND, theirs, Rings, [], paired, |p, n, spots, k| pair_append(p, k)),
         row!("clone", CLONE, theirs, Rings, [], paired, |p, n, spots, k| pair_clone(p, k)),
         row!("walk by cursor", SLOT, theirs, Ring, [0], wrapped, |r, n, spots, k| ring_walk(r, k)),
-        row!("vector push + pop", STATE, theirs, Vector, [], counted, |v, n, spots, k| vector_stack(v, k)),
+        row!("vector push + pop", STACK, theirs, Vector, [], counted, |v, n, spots, k| vector_stack(v, k)),
         row!("vector read", STATE, theirs, Vector, [], counted, |v, n, spots, k| vector_read(v, n, &spots, k)),
         row!("vector insert + remove", SMALL, theirs, Vector, [], counted, |v, n, spots, k| vector_shift(v, n, &spots, k)),
-        row!("vector swap_remove + push", STATE, theirs, Vector, [], counted, |v, n, spots, k| vector_swap(v, n, &spots, k)),
+        row!("vector swap_remove + push", STACK, theirs, Vector, [], counted, |v, n, spots, k| vector_swap(v, n, &spots, k)),
         row!("vector extend", COPY, theirs, Vector, [], counted, |v, n, spots, k| vector_extend(v, &LENT[..n], k)),
         row!("vector extend + truncate", ZERO, theirs, Vector, [], counted, |v, n, spots, k| vector_extend_truncate(v, n, &LENT[..n / 3], k)),
         #[cfg(arrayvec)]
-        row!("arrayvec push + pop", STATE, array, Vector, [], counted, |v, n, spots, k| vector_stack(v, k)),
+        row!("arrayvec push + pop", STACK, array, Vector, [], counted, |v, n, spots, k| vector_stack(v, k)),
         #[cfg(arrayvec)]
         row!("arrayvec read", STATE, array, Vector, [], counted, |v, n, spots, k| vector_read(v, n, &spots, k)),
         #[cfg(arrayvec)]
         row!("arrayvec insert + remove", SMALL, array, Vector, [], counted, |v, n, spots, k| vector_shift(v, n, &spots, k)),
         #[cfg(arrayvec)]
-        row!("arrayvec swap_remove + push", STATE, array, Vector, [], counted, |v, n, spots, k| vector_swap(v, n, &spots, k)),
+        row!("arrayvec swap_remove + push", STACK, array, Vector, [], counted, |v, n, spots, k| vector_swap(v, n, &spots, k)),
         #[cfg(arrayvec)]
         row!("arrayvec extend", COPY, array, Vector, [], counted, |v, n, spots, k| vector_extend(v, &LENT[..n], k)),
     ]

@@ -48,26 +48,28 @@ macro_rules! side {
 }
 
 const SLOT: &str = "the slot's division, which request 06 takes away; then the one test before the work, which asks of a state what Rust's type has settled: two or three comparisons more";
-const ENDS: &str = "the slot's division, which request 06 takes away; then the freed slot, which paper 01 has set to 0 and Rust leaves as it was, and the one test before the work, which asks of a state what Rust's type has settled";
+const ENDS: &str = "the slot's division, which request 06 takes away; then the state, whose two words are loaded and written back together, so that the next call waits for both, where Rust stores what changed; the freed slot, which paper 01 has set to 0 and Rust leaves as it was; and the one test before the work, which asks of a state what Rust's type has settled";
+const QUEUE: &str = "the slot's division, which request 06 takes away; then the state, whose two words are loaded and written back together, so that the next call waits for both, where Rust stores what changed; on Arm the freed slot and the one test before the work weigh next to nothing here";
+const WALK: &str = "the one test before each step, which asks of the ring and of the cursor what Rust's iterator has settled when it is made: four comparisons more; and the slot, which is worked out anew, now by a division that request 06 takes away, where the iterator moves a pointer";
 const STATE: &str = "the one test before the work, which asks of a state what Rust's type has settled: one or two comparisons more";
-const STACK: &str = "the one test before the work, which asks of a state what Rust's type has settled: one or two comparisons more; and the freed slot, which paper 01 has set to 0 and Rust leaves as it was";
+const STACK: &str = "the freed slot, which paper 01 has set to 0 and Rust leaves as it was; and the one test before the work, which asks of a state what Rust's type has settled: one or two comparisons more";
 const COPY: &str = "the test of the state and of the room; the copy is one memmove, where Rust calls memcpy";
-const ZERO: &str = "paper 01 has every freed slot hold 0: one memset more, since Rust leaves it as it was";
+const ZERO: &str = "paper 01 has every freed slot hold 0: one memset more, where Rust's truncate stores one word";
 const CLONE: &str = "the slot's divisions, which request 06 takes away, and the test of two states; the copy is a memmove for each run of slots";
-const ZERO_SLOT: &str = "paper 01 has every freed slot hold 0: a memset for each run of slots, where Rust touches none; and the slot's division, which request 06 takes away";
-const APPEND: &str = "the slots that T frees are set to 0, as paper 01 has it: a memset for each run, where Rust touches none; and the slot's divisions, which request 06 takes away";
-const SMALL: &str = "the test of the state and the words of the answer, beside a shift of a few entries";
+const ZERO_SLOT: &str = "paper 01 has every freed slot hold 0: a memset for each run of slots, where Rust touches none; at 16 also the tests of two calls; and the slot's division, which request 06 takes away: the table tells how much";
+const APPEND: &str = "the slots that T frees are set to 0, as paper 01 has it: a memset for each run, where Rust touches none; and the slot's divisions, which request 06 takes away: the table tells how much";
+const SMALL: &str = "beside a shift of a few entries each step before it counts: the test of the state, and the length of the shift, which takes some steps more than Rust's";
 
 pub fn rows() -> Vec<Row> {
     vec![
-        row!("push_back + pop_front", ENDS, theirs, Ring, [0], wrapped, |r, n, spots, k| ring_queue(r, k)),
+        row!("push_back + pop_front", QUEUE, theirs, Ring, [0], wrapped, |r, n, spots, k| ring_queue(r, k)),
         row!("push_front + pop_back", ENDS, theirs, Ring, [0], wrapped, |r, n, spots, k| ring_queue_back(r, k)),
         row!("read", SLOT, theirs, Ring, [0], wrapped, |r, n, spots, k| ring_read(r, n, &spots, k)),
         row!("insert + remove", SLOT, theirs, Ring, [0], wrapped, |r, n, spots, k| ring_shift(r, n, &spots, k)),
         row!("clear + resize", ZERO_SLOT, theirs, Ring, [0], wrapped, |r, n, spots, k| ring_refill(r, n, k)),
         row!("append", APPEND, theirs, Rings, [], paired, |p, n, spots, k| pair_append(p, k)),
         row!("clone", CLONE, theirs, Rings, [], paired, |p, n, spots, k| pair_clone(p, k)),
-        row!("walk by cursor", SLOT, theirs, Ring, [0], wrapped, |r, n, spots, k| ring_walk(r, k)),
+        row!("walk by cursor", WALK, theirs, Ring, [0], wrapped, |r, n, spots, k| ring_walk(r, k)),
         row!("vector push + pop", STACK, theirs, Vector, [], counted, |v, n, spots, k| vector_stack(v, k)),
         row!("vector read", STATE, theirs, Vector, [], counted, |v, n, spots, k| vector_read(v, n, &spots, k)),
         row!("vector insert + remove", SMALL, theirs, Vector, [], counted, |v, n, spots, k| vector_shift(v, n, &spots, k)),

@@ -58,7 +58,7 @@ const ZERO: &str = "paper 01 has every freed slot hold 0: one memset more, where
 const CLONE: &str = "the slot's divisions, which request 06 takes away, and the test of two states; the copy is a memmove for each run of slots";
 const ZERO_SLOT: &str = "paper 01 has every freed slot hold 0: a memset for each run of slots, where Rust touches none; at 16 also the tests of two calls; and the slot's division, which request 06 takes away: the table tells how much";
 const APPEND: &str = "the slots that T frees are set to 0, as paper 01 has it: a memset for each run, where Rust touches none; and the slot's divisions, which request 06 takes away: the table tells how much";
-const SMALL: &str = "beside a shift of a few entries each step before it counts: the test of the state, and the length of the shift, which takes some steps more than Rust's";
+const SMALL: &str = "beside a shift of a few entries each step before it counts: the test of the state, and the length of the shift, which takes some steps more than Rust's (likely, not shown: see below)";
 
 pub fn rows() -> Vec<Row> {
     vec![

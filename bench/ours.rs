@@ -1,20 +1,12 @@
-// The proved calls, as an archive exports them. A caller lends slots that stand at a fixed place, as firmware does. This file is taken in twice,
-// once for each archive: `linked` gives the name that a call has in it.
+// The proved calls, as an archive exports them. A caller lends slots that stand at a fixed place, as firmware does.
+use crate::place::{Line, Page};
 use crate::work;
 
 // An answer: the value in the low 32 bits, the moves in the next 24, the number in the high 8.
 type Word = u64;
 type State = [usize; 2]; // a ring's head and length
 
-macro_rules! calls {
-    ($(fn $name:ident($($arg:ident: $type:ty),*) -> Word;)*) => {
-        extern "C" {
-            $(#[link_name = linked!($name)] fn $name($($arg: $type),*) -> Word;)*
-        }
-    };
-}
-
-calls! {
+extern "C" {
     fn tum_ring_push_back(slots: *mut u32, cap: usize, state: *mut State, x: u32) -> Word;
     fn tum_ring_push_front(slots: *mut u32, cap: usize, state: *mut State, x: u32) -> Word;
     fn tum_ring_pop_back(slots: *mut u32, cap: usize, state: *mut State) -> Word;
@@ -37,16 +29,9 @@ calls! {
     fn tum_vector_truncate(slots: *mut u32, cap: usize, len: *mut usize, k: usize) -> Word;
 }
 
-// Slots that begin 16 bytes after a line of the cache, where the allocator puts those of Rust's containers.
-#[repr(C, align(64))]
-struct Lent {
-    before: [u32; 4],
-    slots: [u32; 4096],
-}
-
-static mut LENT: [Lent; 2] = [const { Lent { before: [0; 4], slots: [0; 4096] } }; 2];
-static mut STATE: [State; 2] = [[0; 2]; 2];
-static mut LEN: usize = 0;
+static mut LENT: [Page; 2] = [const { Page::of(0) }; 2];
+static mut STATE: [Line<State>; 2] = [const { Line([0; 2]) }; 2];
+static mut LEN: Line<usize> = Line(0);
 
 #[inline(always)]
 fn done(w: Word) -> u64 {
@@ -70,7 +55,7 @@ pub struct Vector<const C: usize>;
 
 macro_rules! of_ring {
     ($call:ident $(, $arg:expr)*) => {
-        unsafe { $call((&raw mut LENT[WHICH].slots).cast(), C, &raw mut STATE[WHICH] $(, $arg)*) }
+        unsafe { $call((&raw mut LENT[WHICH].slots).cast(), C, &raw mut STATE[WHICH].0 $(, $arg)*) }
     };
 }
 
@@ -78,8 +63,8 @@ macro_rules! of_pair {
     ($call:ident, $first:literal, $second:literal) => {
         unsafe {
             $call(
-                (&raw mut LENT[$first].slots).cast(), C, &raw mut STATE[$first],
-                (&raw mut LENT[$second].slots).cast(), C, &raw mut STATE[$second],
+                (&raw mut LENT[$first].slots).cast(), C, &raw mut STATE[$first].0,
+                (&raw mut LENT[$second].slots).cast(), C, &raw mut STATE[$second].0,
             )
         }
     };
@@ -87,13 +72,13 @@ macro_rules! of_pair {
 
 macro_rules! of_vector {
     ($call:ident $(, $arg:expr)*) => {
-        unsafe { $call((&raw mut LENT[0].slots).cast(), C, &raw mut LEN $(, $arg)*) }
+        unsafe { $call((&raw mut LENT[0].slots).cast(), C, &raw mut LEN.0 $(, $arg)*) }
     };
 }
 
 impl<const C: usize, const WHICH: usize> work::Ring for Ring<C, WHICH> {
     fn make() -> Self {
-        unsafe { STATE[WHICH] = [0; 2] };
+        unsafe { STATE[WHICH].0 = [0; 2] };
         Ring
     }
 
@@ -146,7 +131,7 @@ impl<const C: usize, const WHICH: usize> work::Ring for Ring<C, WHICH> {
 
     #[inline(always)]
     fn begin(self) -> [usize; 2] {
-        unsafe { [0, STATE[WHICH][1]] }
+        unsafe { [0, STATE[WHICH].0[1]] }
     }
 
     #[inline(always)]
@@ -176,14 +161,14 @@ impl<const C: usize> work::Pair for Rings<C> {
     // T as `new` makes it: no slot is touched.
     #[inline(always)]
     fn clone_to(self) -> u64 {
-        unsafe { STATE[0] = [0; 2] };
+        unsafe { STATE[0].0 = [0; 2] };
         done(of_pair!(tum_ring_clone, 1, 0))
     }
 }
 
 impl<const C: usize> work::Vector for Vector<C> {
     fn make() -> Self {
-        unsafe { LEN = 0 };
+        unsafe { LEN.0 = 0 };
         Vector
     }
 
@@ -230,6 +215,6 @@ impl<const C: usize> work::Vector for Vector<C> {
     // As `new` makes it: no slot is touched.
     #[inline(always)]
     fn anew(self) {
-        unsafe { LEN = 0 };
+        unsafe { LEN.0 = 0 };
     }
 }

@@ -1,10 +1,11 @@
 // Rust's own containers at fixed places; each call goes through the crate `rust`.
+use crate::place::Line;
 use crate::work;
 use std::collections::vec_deque::Iter;
 use std::collections::VecDeque;
 
-static mut DEQUE: [VecDeque<u32>; 2] = [VecDeque::new(), VecDeque::new()];
-static mut VEC: Vec<u32> = Vec::new();
+static mut DEQUE: [Line<VecDeque<u32>>; 2] = [const { Line(VecDeque::new()) }; 2];
+static mut VEC: Line<Vec<u32>> = Line(Vec::new());
 
 #[derive(Clone, Copy)]
 pub struct Ring<const C: usize, const WHICH: usize>;
@@ -17,12 +18,12 @@ pub struct Vector<const C: usize>;
 
 #[inline(always)]
 fn deque<const WHICH: usize>() -> &'static mut VecDeque<u32> {
-    unsafe { &mut *(&raw mut DEQUE[WHICH]) }
+    unsafe { &mut *(&raw mut DEQUE[WHICH].0) }
 }
 
 #[inline(always)]
 fn vec() -> &'static mut Vec<u32> {
-    unsafe { &mut *(&raw mut VEC) }
+    unsafe { &mut *(&raw mut VEC.0) }
 }
 
 impl<const C: usize, const WHICH: usize> work::Ring for Ring<C, WHICH> {

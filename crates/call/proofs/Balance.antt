@@ -10,7 +10,8 @@ use Rattle.table.specs.Tray.{Tray, invalid}
 use Rattle.table.specs.Calls.{new}
 use Rattle.table.specs.Does.{Outcome2, does, does2, made}
 use Rattle.table.specs.Ledger.{modelled, entered, handed, dropped}
-use Rattle.table.specs.World.{World, Event, at, Ours, AllOurs, run, lines, held, standingAll}
+use Rattle.table.specs.World.{World, Event, at, make, Ours, AllOurs, run, lines, held, standingAll}
+use Rattle.table.proofs.Keeps.{call-kept, two-kept, made-arrives}
 use Rattle.table.proofs.Demand3.{demand-3, models}
 use Rattle.table.proofs.StaysValid.{stays-valid, first-stays-valid, second-stays-valid, made-valid}
 use Rattle.call.specs.declared.lines.RingOp.{RingOp}
@@ -56,8 +57,8 @@ vector-has (VectorOp.Write i x) = refl
 -- a call on one container of a kind that has it, or on two different ones, is one of ours
 ours-at : (w : World) (i j : ℕ) (k : Kind) → i < length w → j < length w → (i ≡ j → ⊥) → at w i .kind ≡ k → at w j .kind ≡ k
     → (a : Act) → hasAct a k ≡ true → Ours w (eventAt w i j a)
-ours-at w i j k li lj ne ki kj (one call) h = (li, rw ki h, refl)
-ours-at w i j k li lj ne ki kj (two call) h = (li, lj, ne, rw (ki, kj) h, refl)
+ours-at w i j k li lj ne ki kj (one call) h = (li, rw ki h, refl, call-kept call)
+ours-at w i j k li lj ne ki kj (two call) h = (li, lj, ne, rw (ki, kj) h, refl, two-kept call)
 
 -- what is done to valid containers leaves them valid
 both-valid : (k : Kind) (a : Act) (t t2 : Tray) → invalid k t ≡ false → invalid k t2 ≡ false
@@ -185,7 +186,10 @@ lines-valid ls = leads begun ls begun-four .still
 
 all-ours : (ls : List (List ℕ)) → AllOurs [] (happened ls)
 unfolding begun
-all-ours ls = ((refl, refl), ((refl, refl), ((refl, refl), ((refl, refl), leads begun ls begun-four .ours))))
+all-ours ls = (began ring, (began ring, (began vector, (began vector, leads begun ls begun-four .ours))))
+  where
+    began : (k : Kind) → Ours [] (make k new free (made k new free))
+    began k = (refl, refl, made-arrives new)
 
 ends-there : (ls : List (List ℕ)) → run [] (happened ls) ≡ after begun ls
 unfolding begun

@@ -9,7 +9,7 @@ use Rattle.table.specs.Calls as table
 use Rattle.table.specs.Calls.{push, pushFront, pop, popFront, insert, remove, swapRemove, write, truncate, resize, clear, look, read}
 use Rattle.table.specs.Calls.{append, splitOff, has, has2, new}
 use Rattle.table.specs.Does.{Outcome, Outcome2, does, does2, made, headIn}
-use Rattle.table.specs.World.{Container, World, at, Event, make, on, onTwo, step, run}
+use Rattle.table.specs.World.{Container, World, at, Event, arrived, called, calledTwo, make, on, onTwo, step, run}
 use Rattle.call.specs.declared.lines.RingOp.{RingOp}
 use Rattle.call.specs.declared.lines.VectorOp.{VectorOp}
 use Rattle.call.specs.declared.lines.Call.{Call}
@@ -109,9 +109,9 @@ abbrev pub reports : (number value moves : ℕ) → Container → Answer
 reports number value moves b = record { number = number; value = value; moves = moves; head = headIn (b .kind) (b .tray .head); len = b .tray .len }
 
 abbrev pub reported : Event → Container → Answer
-reported (make k m slots o) b = reports (o .number) (o .value) (o .moves) b
-reported (on i call o) b = reports (o .number) (o .value) (o .moves) b
-reported (onTwo i j call o) b = reports (o .number) (o .value) (o .moves) b
+reported (arrived k a slots o) b = reports (o .number) (o .value) (o .moves) b
+reported (called i p o) b = reports (o .number) (o .value) (o .moves) b
+reported (calledTwo i j p o) b = reports (o .number) (o .value) (o .moves) b
 
 -- what a call comes to: the world afterwards, and what is answered
 pub record Acts : Type 0 where

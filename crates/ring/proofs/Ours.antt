@@ -9,7 +9,7 @@ use Rattle.slots.specs.Layout.{ring}
 use Rattle.table.specs.Calls.{new, withCapacity, look, len, read, reserve}
 use Rattle.table.specs.Calls.{write, push, pushFront, pop, popFront, insert, remove, truncate, resize, clear}
 use Rattle.table.specs.World.{World, make, on, Ours}
-use Rattle.table.proofs.Named.{Is, ours-on}
+use Rattle.table.proofs.Named.{Is, ours-make, ours-on}
 use Rattle.ring.specs.Seen.{tray, seen}
 use Rattle.ring.proofs.Ring as fn
 
@@ -17,11 +17,11 @@ use Rattle.ring.proofs.Ring as fn
 module _ (w : World) (κs : Lfts 1) where
   pub new-ours : (a : ArgsD fn.new.signature κs) (r : ResD fn.new.signature κs) (e : AtExit fn.new.ended κs)
       → fn.new.Reads.Learnt κs a r e → Ours w (make ring new (now (a .0)) (seen r (now (a .0))))
-  new-ours a r e learnt = (refl, learnt)
+  new-ours a r e learnt = ours-make w _ _ _ _ refl learnt
 
   pub with-capacity-ours : (a : ArgsD fn.with_capacity.signature κs) (r : ResD fn.with_capacity.signature κs) (e : AtExit fn.with_capacity.ended κs)
       → fn.with_capacity.Reads.Learnt κs a r e → Ours w (make ring (withCapacity (a .1 .0)) (now (a .0)) (seen r (now (a .0))))
-  with-capacity-ours a r e learnt = (refl, learnt)
+  with-capacity-ours a r e learnt = ours-make w _ _ _ _ refl learnt
 
 module _ (w : World) (i : ℕ) (κs : Lfts 1) where
   pub len-ours : (a : ArgsD fn.len.signature κs) (r : ResD fn.len.signature κs) (e : AtExit fn.len.ended κs)

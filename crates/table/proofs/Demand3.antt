@@ -1,5 +1,5 @@
 -- Demand 3: each number has entered exactly as often as it was handed out, was dropped, or stands in the occupied slots; counted over model lists
--- that are folded from the calls and answers alone and are what the slots hold. Assumes nothing.
+-- that are folded from the calls' rules and answers alone and are what the slots hold. Assumes nothing.
 use Prim.Native.Nat.{ℕ, zero, suc, _+_, _<_}
 use mathlib.Core.Path.{_≡_, refl, sym, _∙_, ap, subst⁻¹}
 use mathlib.Core.List.{List, [], _∷_, _++_}
@@ -7,13 +7,24 @@ use native.Mathlib.Nat.{not-suc-le-zero, le-of-suc-le-suc}
 use native.Mathlib.Omega.{arith}
 use lib.ListN.{length, set, length-set}
 use lib.Seq.{getD-set-other}
+use Rattle.slots.specs.Count.{count}
 use Rattle.slots.specs.Layout.{Kind}
-use Rattle.table.specs.Tray.{Tray, list}
-use Rattle.table.specs.Table.{after, after2, begins}
-use Rattle.table.specs.Does.{Outcome2, does, does2, made}
-use Rattle.table.specs.Ledger.{ifDone, Lists, listAt, setTwo, listsAfter, flows, modelled, entered, handed, dropped}
-use Rattle.table.specs.World.{Container, World, at, Event, make, on, onTwo, Ours, step, AllOurs, run, line, lines, holds, held, standing, standingAll}
-use Rattle.table.proofs.Keeps.{Good, container, Balanced, one-keeps, make-keeps, two-keep, bare-list, bare-none}
+use Rattle.slots.proofs.Counts.{count-append}
+use Rattle.slots.proofs.Placing.{placing, tally-entries}
+use Rattle.table.specs.Tray.{Tray, cap, list}
+use Rattle.table.specs.Does.{Outcome, Outcome2}
+use Rattle.table.specs.Ledger.{goesBy, goesBy2, Lists, listAt, listsAfter, flows, modelled, entered, handed, dropped}
+use Rattle.table.specs.Promise.{Good, Keeps, Keeps2}
+use Rattle.table.specs.World.{Container, World, at, Event, arrived, called, calledTwo, Ours, step, AllOurs, run, line, lines, holds, held, standing, standingAll}
+
+abbrev container : Kind → Tray → Container
+container k t = record { kind = k; tray = t }
+
+-- counting the occupied slots is counting the list
+standing-list : (x : ℕ) (b : Container) → Good (b .tray) → standing x b ≡ count x (holds b)
+unfolding standing
+standing-list x b good =
+    tally-entries _ _ x (b .tray .len) (b .tray .slots) (placing (b .kind) (cap (b .tray)) (b .tray .head) (good .headed)) (good .fits)
 
 -- every container of the world is good
 abbrev AllGood : World → Type 0
@@ -58,95 +69,85 @@ held-more : (w : World) (b : Container) → held (w ++ (b ∷ [])) ≡ held w ++
 held-more [] b = refl
 held-more (a ∷ w) b = ap (λ (ls : Lists). holds a ∷ ls) (held-more w b)
 
--- a list set to what it is
-set-same : (ls : Lists) (i : ℕ) → set ls i (listAt ls i) ≡ ls
-set-same [] i = refl
-set-same (l ∷ ls) zero = refl
-set-same (l ∷ ls) (suc i) = ap (λ (r : Lists). l ∷ r) (set-same ls i)
-
--- set to l where the call is done, and else to what it is
-set-done : (number : ℕ) (ls : Lists) (i : ℕ) (l : List ℕ) → set ls i (ifDone number l (listAt ls i)) ≡ ifDone number (set ls i l) ls
-set-done zero ls i l = refl
-set-done (suc m) ls i l = set-same ls i
-
-other-list : (ls : Lists) (i j : ℕ) (l : List ℕ) → (i ≡ j → ⊥) → listAt (set ls i l) j ≡ listAt ls j
-other-list ls i j l ne = getD-set-other ls i j l [] (λ e. ne (sym e))
-
-set-two-done : (number : ℕ) (ls : Lists) (i j : ℕ) (two : List ℕ × List ℕ) → (i ≡ j → ⊥)
-    → setTwo ls i j (ifDone number (two .0) (listAt ls i), ifDone number (two .1) (listAt ls j)) ≡ ifDone number (setTwo ls i j two) ls
-set-two-done zero ls i j two ne = refl
-set-two-done (suc m) ls i j two ne =
-    ap (λ l. set (set ls i (listAt ls i)) j l) (sym (other-list ls i j (listAt ls i) ne))
-    ∙ set-same (set ls i (listAt ls i)) j
-    ∙ set-same ls i
-
 -- one step of a sequence: the model lists are what the slots hold, and the count balances
 record Steps (x : ℕ) (w : World) (e : Event) : Type 0 where
   good : AllGood (step w e)
   modelled : held (step w e) ≡ listsAfter (held w) (line e)
-  balanced : Balanced x (flows (held w) (line e)) (standingAll x w) (standingAll x (step w e))
+  balanced :
+      count x (flows (held w) (line e) .entered) + standingAll x w
+      ≡ count x (flows (held w) (line e) .handed) + count x (flows (held w) (line e) .dropped) + standingAll x (step w e)
 
--- an outcome that was promised is the table's
+-- an outcome that was promised keeps its rule
 steps : (x : ℕ) (w : World) (e : Event) → AllGood w → Ours w e → Steps x w e
-steps x w (make k m slots o) g our =
-    subst⁻¹ (λ o. Steps x w (make k m slots o)) (our .1) (
-    let kept = make-keeps x k m slots in
-    let b : Container = container k (made k m slots .tray) in
-    let first : holds b ≡ ifDone (made k m slots .number) (begins m) [] = kept .listed ∙ ap (ifDone (made k m slots .number) (begins m)) (bare-list k slots) in
+steps x w (arrived k a slots o) g our =
+    subst⁻¹ (λ o. Steps x w (arrived k a slots o)) (our .1) (
+    let kept = our .2 .holds k slots (our .0) in
+    let b : Container = container k (a .makes k slots .tray) in
     record {
       good = good-more w b g (kept .good);
-      modelled = held-more w b ∙ ap (λ l. held w ++ (l ∷ [])) first;
-      balanced = record { balance = omega (arith, kept .balanced .balance, bare-none x k slots, standing-more x w b) };
+      modelled = held-more w b ∙ ap (λ l. held w ++ (l ∷ [])) (kept .listed);
+      balanced = omega (arith, standing-more x w b, standing-list x b (kept .good), ap (count x) (kept .listed));
     })
-steps x w (on i what o) g our =
-    subst⁻¹ (λ o. Steps x w (on i what o)) (our .2) (
+steps x w (called i p o) g our =
+    subst⁻¹ (λ o. Steps x w (called i p o)) (our .2) (
     let k : Kind = at w i .kind in
-    let t : Tray = at w i .tray in
-    let kept = one-keeps x k what t (good-at w i g (our .0)) in
-    let b : Container = container k (does k what t .tray) in
-    let was : listAt (held w) i ≡ list k t = held-at w i (our .0) in
-    let is : holds b ≡ ifDone (does k what t .number) (after what (listAt (held w) i)) (listAt (held w) i) = rw was (kept .listed) in
+    let o : Outcome = p .does k (at w i .tray) in
+    let was : listAt (held w) i ≡ holds (at w i) = held-at w i (our .0) in
+    let good = good-at w i g (our .0) in
+    let kept : Keeps (goesBy (o .number) (p .rule)) k (listAt (held w) i) o = rw was (our .3 .keeps k (at w i .tray) (our .1) good) in
+    let b : Container = container k (o .tray) in
     record {
-      good = good-set w i b g (kept .good);
-      modelled = held-set w i b ∙ ap (set (held w) i) is ∙ set-done (does k what t .number) (held w) i _;
-      balanced = record {
-        balance = rw was (omega (arith, kept .balanced .balance, standing-set x w i b (our .0)));
-      };
+      good = good-set w i b g (kept .holds .good);
+      modelled = held-set w i b ∙ ap (set (held w) i) (kept .holds .listed);
+      balanced = omega (
+        arith,
+        kept .balanced x,
+        standing-set x w i b (our .0),
+        standing-list x (at w i) good,
+        standing-list x b (kept .holds .good),
+        ap (count x) was,
+        ap (count x) (kept .holds .listed),
+      );
     })
-steps x w (onTwo i j what o) g our =
-    subst⁻¹ (λ o. Steps x w (onTwo i j what o)) (our .4) (
+steps x w (calledTwo i j p o) g our =
+    subst⁻¹ (λ o. Steps x w (calledTwo i j p o)) (our .4) (
     let k : Kind = at w i .kind in
     let k2 : Kind = at w j .kind in
-    let o : Outcome2 = does2 k k2 what (at w i .tray) (at w j .tray) in
-    let kept = two-keep x k k2 what (at w i .tray) (at w j .tray) (good-at w i g (our .0)) (good-at w j g (our .1)) in
+    let o : Outcome2 = p .does k k2 (at w i .tray) (at w j .tray) in
+    let was : listAt (held w) i ≡ holds (at w i) = held-at w i (our .0) in
+    let was2 : listAt (held w) j ≡ holds (at w j) = held-at w j (our .1) in
+    let good = good-at w i g (our .0) in
+    let good2 = good-at w j g (our .1) in
+    let kept : Keeps2 (goesBy2 (o .number) (p .rule)) k k2 (listAt (held w) i) (listAt (held w) j) o =
+    rw (was, was2) (our .5 .keeps k k2 (at w i .tray) (at w j .tray) (our .3) good good2) in
     let b : Container = container k (o .first) in
     let apart : at (set w i b) j ≡ at w j = getD-set-other w i j b _ (λ e. our .2 (sym e)) in
     let b2 : Container = container (at (set w i b) j .kind) (o .second) in
     let same : b2 ≡ container k2 (o .second) = ap (λ (a : Container). container (a .kind) (o .second)) apart in
     let there : j < length (set w i b) = simp length-set (our .1) in
-    let was : listAt (held w) i ≡ holds (at w i) = held-at w i (our .0) in
-    let was2 : listAt (held w) j ≡ holds (at w j) = held-at w j (our .1) in
-    let two : List ℕ × List ℕ = after2 what (listAt (held w) i) (listAt (held w) j) in
-    let is : holds b ≡ ifDone (o .number) (two .0) (listAt (held w) i) = rw (was, was2) (kept .listed) in
-    let is2 : holds b2 ≡ ifDone (o .number) (two .1) (listAt (held w) j) = ap holds same ∙ rw (was, was2) (kept .listed2) in
+    let is2 = ap holds same ∙ kept .second .listed in
     record {
-      good = good-set (set w i b) j b2 (good-set w i b g (kept .good)) (kept .good2);
+      good = good-set (set w i b) j b2 (good-set w i b g (kept .first .good)) (kept .second .good);
       modelled =
           held-set (set w i b) j b2
           ∙ ap (λ (ls : Lists). set ls j (holds b2)) (held-set w i b)
-          ∙ ap (λ l. set (set (held w) i l) j (holds b2)) is
-          ∙ ap (set (set (held w) i (ifDone (o .number) (two .0) (listAt (held w) i))) j) is2
-          ∙ set-two-done (o .number) (held w) i j two (our .2);
-      balanced = record {
-        balance = rw was (omega (
-          arith,
-          kept .balanced .balance,
-          standing-set x w i b (our .0),
-          standing-set x (set w i b) j b2 there,
-          ap (standing x) apart,
-          ap (standing x) same,
-        ));
-      };
+          ∙ ap (λ l. set (set (held w) i l) j (holds b2)) (kept .first .listed)
+          ∙ ap (set (set (held w) i _) j) is2;
+      balanced = omega (
+        arith,
+        simp count-append at (kept .balanced x),
+        standing-set x w i b (our .0),
+        standing-set x (set w i b) j b2 there,
+        ap (standing x) apart,
+        standing-list x (at w i) good,
+        standing-list x (at w j) good2,
+        standing-list x b (kept .first .good),
+        standing-list x b2 (kept .second .good),
+        ap (count x) was,
+        ap (count x) was2,
+        ap (count x) (kept .first .listed),
+        ap (count x) is2,
+      );
     })
 
 -- from any world whose containers are good
@@ -156,7 +157,7 @@ conserved x w [] g ours = omega arith
 conserved x w (e ∷ es) g ours =
     let now : Steps x w e = steps x w e g (ours .0) in
     let rest = rw (now .modelled) at (conserved x (step w e) es (now .good) (ours .1)) in
-    omega (arith, now .balanced .balance, rest)
+    omega (arith, now .balanced, rest)
 
 follow : (w : World) (es : List Event) → AllGood w → AllOurs w es → held (run w es) ≡ modelled (held w) (lines es)
 follow w [] g ours = refl

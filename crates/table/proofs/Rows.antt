@@ -14,7 +14,7 @@ use Rattle.slots.proofs.Placing.{slot-inside}
 use Rattle.table.specs.Calls.{Call, push, pushFront, pop, popFront, insert, remove, swapRemove, write, truncate, resize, clear, extend, look}
 use Rattle.table.specs.Calls.{Call2, append, splitOff, clone, fromIter, same, equal, Making, new, withCapacity, fromElem}
 use Rattle.table.specs.Table.{row, row2, makes, after, after2, begins}
-use Rattle.table.specs.Ledger.{Flow, flow, flow2, flowMade}
+use Rattle.table.specs.Ledger.{Flow, flow, flow2}
 use Rattle.table.proofs.Refusals.{Clear}
 
 -- how the tests of the refusals read
@@ -59,10 +59,10 @@ kept x c h clear l fits e = record { room = omega arith; balance = omega arith }
 kept x c h (extend s) l fits e = record { room = simp length-append (omega (arith, readings)); balance = simp count-append (omega arith) }
 kept x c h (look k) l fits e = record { room = fits; balance = refl }
 
-pub kept-made : (x c : ℕ) (m : Making) → Clear (makes c m .refusals) → Kept x c (flowMade m) [] (begins m)
-kept-made x c new e = record { room = omega arith; balance = refl }
-kept-made x c (withCapacity k) e = record { room = omega arith; balance = refl }
-kept-made x c (fromElem k y) e = record { room = simp length-replicate (omega (arith, readings)); balance = omega arith }
+pub made-room : (c : ℕ) (m : Making) → Clear (makes c m .refusals) → length (begins m) ≤ c
+made-room c new e = omega arith
+made-room c (withCapacity k) e = omega arith
+made-room c (fromElem k y) e = simp length-replicate (omega (arith, readings))
 
 -- the same of a call on two, their counts added
 pub record Kept2 (x c c2 : ℕ) (f : Flow) (before before2 after after2 : List ℕ) : Type 0 where

@@ -16,6 +16,7 @@ use Rattle.table.specs.World.{Event, make, on, onTwo, Ours, AllOurs, run
 use Rattle.table.specs.Ledger.{modelled, entered, handed, dropped}
 use Rattle.table.proofs.Trays.{tray, cursor, gives, answers}
 use Rattle.table.proofs.Samples.{gives2, answers2, shows2}
+use Rattle.table.proofs.Keeps.{call-kept, two-kept, made-arrives}
 use Rattle.table.proofs.Demand3.{models, demand-3}
 
 -- Containers 0 and 1 are rings, 2 and 3 vectors; the last making is refused. W of paper 01 is made by calls and case a is done on it; then a
@@ -54,27 +55,27 @@ a then b = (a, b)
 ours : AllOurs [] events
 unfolding does does2 made valid entries relaid moved tabulate tally one slotOf posOf
 ours =
-    (refl, refl)
-    then (refl, refl)
-    then (refl, refl)
-    then (refl, refl)
-    then (omega arith, refl, refl)
-    then (omega arith, refl, refl)
-    then (omega arith, refl, refl)
-    then (omega arith, refl, refl)
-    then (omega arith, refl, refl)
-    then (omega arith, omega arith, omega arith, refl, refl)
-    then (omega arith, refl, refl)
-    then (omega arith, refl, refl)
-    then (omega arith, omega arith, omega arith, refl, refl)
-    then (omega arith, refl, refl)
-    then (omega arith, omega arith, omega arith, refl, refl)
-    then (omega arith, refl, refl)
-    then (omega arith, refl, refl)
-    then (omega arith, omega arith, omega arith, refl, refl)
-    then (omega arith, refl, refl)
-    then (omega arith, refl, refl)
-    then (omega arith, refl, refl)
+    (refl, refl, made-arrives new)
+    then (refl, refl, made-arrives (withCapacity 3))
+    then (refl, refl, made-arrives (fromElem 2 8))
+    then (refl, refl, made-arrives (fromElem 3 8))
+    then (omega arith, refl, refl, call-kept (push 11))
+    then (omega arith, refl, refl, call-kept (pushFront 10))
+    then (omega arith, refl, refl, call-kept (pushFront 9))
+    then (omega arith, refl, refl, call-kept (insert 1 8))
+    then (omega arith, refl, refl, call-kept (push 8))
+    then (omega arith, omega arith, omega arith, refl, refl, two-kept (splitOff 2))
+    then (omega arith, refl, refl, call-kept popFront)
+    then (omega arith, refl, refl, call-kept (resize 3 8))
+    then (omega arith, omega arith, omega arith, refl, refl, two-kept clone)
+    then (omega arith, refl, refl, call-kept (truncate 2))
+    then (omega arith, omega arith, omega arith, refl, refl, two-kept (fromIter (cursor 0 2)))
+    then (omega arith, refl, refl, call-kept (swapRemove 0))
+    then (omega arith, refl, refl, call-kept (write 1 8))
+    then (omega arith, omega arith, omega arith, refl, refl, two-kept append)
+    then (omega arith, refl, refl, call-kept (look (read 1)))
+    then (omega arith, refl, refl, call-kept popFront)
+    then (omega arith, refl, refl, call-kept pop)
     then tt
 
 -- the lists that the calls and answers tell

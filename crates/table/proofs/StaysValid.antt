@@ -20,7 +20,7 @@ use Rattle.table.specs.Does.{Outcome2, refused2, done2, rowOf2, refusals
 use Rattle.table.proofs.Refusals.{Clear, either, both-hold, not-fails}
 use Rattle.table.proofs.Valid.{Valid, ring-facts, vector-facts}
 use Rattle.table.proofs.Done.{many}
-use Rattle.table.proofs.Rows.{kept, kept-made, kept2, headed, headed2}
+use Rattle.table.proofs.Rows.{kept, made-room, kept2, headed, headed2}
 use Rattle.table.proofs.Keeps.{head-in}
 
 -- valid in numbers, both ways; a vector has no head
@@ -90,7 +90,7 @@ two-leave k k2 call t t2 clear =
 
 pub made-leaves : (k : Kind) (m : Making) (slots : List ℕ) → Clear (refusalsMade m slots)
     → Leaves k (bare slots) (begins m) (headIn k (makes (length slots) m .head))
-made-leaves k m slots clear = record { room = kept-made 0 (length slots) m (clear .1) .room; inside = head-in k _ _ (head-in k _ _ (start m)) }
+made-leaves k m slots clear = record { room = made-room (length slots) m (clear .1); inside = head-in k _ _ (head-in k _ _ (start m)) }
   where
     start : (m : Making) → makes (length slots) m .head ≤ length slots - 1
     start new = omega arith

@@ -5,7 +5,10 @@ use mathlib.Core.List.{List, [], _∷_}
 use Prim.Native.Nat.{ℕ}
 use Rattle.table.specs.Calls.{push, pushFront, pop, popFront, insert, remove, swapRemove, write, truncate, resize, clear, extend, look, len, read, stepFront, peekFront}
 use Rattle.table.specs.Calls.{append, splitOff, clone, fromIter, same, equal, new, withCapacity, fromElem}
-use Rattle.table.specs.Ledger.{Flow, flow, flow2, flowMade, Lists, making, call, callTwo, listsAfter, flows}
+use Rattle.table.specs.Calls.{Call, Call2, Making}
+use Rattle.table.specs.Table.{begins}
+use Rattle.table.specs.Ledger as ledger
+use Rattle.table.specs.Ledger.{Flow, flow, flow2, rule, rule2, Line, Lists, listsAfter, flows}
 use Rattle.table.proofs.Trays.{cursor}
 
 -- what entered, what was handed out, what was dropped
@@ -43,14 +46,11 @@ drops :
     × (flow clear 0 l ≡ moves [] [] (1 ∷ 2 ∷ 3 ∷ []))
 drops = (refl, refl, refl, refl, refl, refl, refl)
 
--- The copies that clone, from_elem and from_iter make enter. Append, split_off, a question, read, peek and a step do none of these.
+-- The copies that clone and from_iter make enter. Append, split_off, a question, read, peek and a step do none of these.
 copies :
     (flow2 clone l ≡ moves (1 ∷ 2 ∷ 3 ∷ []) [] [])
     × (flow2 (fromIter (cursor 1 3)) l ≡ moves (2 ∷ 3 ∷ []) [] [])
     × (flow2 (fromIter (cursor 0 2)) l ≡ moves (1 ∷ 2 ∷ []) [] [])
-    × (flowMade (fromElem 2 8) ≡ moves (8 ∷ 8 ∷ []) [] [])
-    × (flowMade new ≡ nothing)
-    × (flowMade (withCapacity 2) ≡ nothing)
     × (flow2 append l ≡ nothing)
     × (flow2 (splitOff 1) l ≡ nothing)
     × (flow2 same l ≡ nothing)
@@ -59,13 +59,24 @@ copies :
     × (flow (look (peekFront (cursor 0 3) 1)) 2 l ≡ nothing)
     × (flow (look (stepFront (cursor 0 3))) 1 l ≡ nothing)
     × (flow (look len) 3 l ≡ nothing)
-copies = (refl, refl, refl, refl, refl, refl, refl, refl, refl, refl, refl, refl, refl, refl)
+copies = (refl, refl, refl, refl, refl, refl, refl, refl, refl, refl, refl)
+
+-- the lines of paper 01's calls
+abbrev making : Making → (number : ℕ) → Line
+making m = ledger.making (begins m)
+
+abbrev call : (i : ℕ) → Call → (number value : ℕ) → Line
+call i what = ledger.call i (rule what)
+
+abbrev callTwo : (i j : ℕ) → Call2 → (number : ℕ) → Line
+callTwo i j what number = ledger.callTwo i j (rule2 what) number 0
 
 -- three containers' lists
 abbrev ls : Lists
 ls = (1 ∷ 2 ∷ []) ∷ (3 ∷ []) ∷ [] ∷ []
 
 -- A line of the ledger: the call is on the container named, over that one's list, and a refused one does nothing.
+-- What from_elem fills in enters.
 flowing :
     (flows ls (call 0 clear 0 0) ≡ moves [] [] (1 ∷ 2 ∷ []))
     × (flows ls (call 1 clear 0 0) ≡ moves [] [] (3 ∷ []))
@@ -77,7 +88,9 @@ flowing :
     × (flows ls (callTwo 0 1 clone 5) ≡ nothing)
     × (flows ls (making (fromElem 2 8) 0) ≡ moves (8 ∷ 8 ∷ []) [] [])
     × (flows ls (making (fromElem 2 8) 6) ≡ nothing)
-flowing = (refl, refl, refl, refl, refl, refl, refl, refl, refl, refl)
+    × (flows ls (making new 0) ≡ nothing)
+    × (flows ls (making (withCapacity 2) 0) ≡ nothing)
+flowing = (refl, refl, refl, refl, refl, refl, refl, refl, refl, refl, refl, refl)
 
 -- The model lists after a line. A refused making adds a container too, with nothing in it.
 modelling :

@@ -1,12 +1,12 @@
--- What calls enter, hand out and drop, and the model lists that this is counted over: all from the calls, the numbers and the values
+-- What calls enter, hand out and drop, and the model lists that this is counted over: all from the calls' rules, the numbers and the values
 -- answered. No state and no slot is looked at. Assumes nothing.
 use Prim.Native.Nat.{ℕ, zero, suc, _+_, _-_}
 use mathlib.Core.List.{List, [], _∷_, _++_}
 use lib.ListN.{length, drop, replicate, getD, set}
 use Rattle.slots.specs.Count.{count}
 use Rattle.table.specs.Calls.{Call, push, pushFront, pop, popFront, insert, remove, swapRemove, write, truncate, resize, clear, extend, look}
-use Rattle.table.specs.Calls.{Call2, append, splitOff, clone, fromIter, same, equal, Making, new, withCapacity, fromElem}
-use Rattle.table.specs.Table.{after, after2, begins, remaining}
+use Rattle.table.specs.Calls.{Call2, append, splitOff, clone, fromIter, same, equal}
+use Rattle.table.specs.Table.{after, after2, remaining}
 
 pub record Flow : Type 0 where
   pub entered : List ℕ
@@ -50,17 +50,40 @@ flow2 (fromIter u) l = enters (remaining u l)
 flow2 same l = none
 flow2 equal l = none
 
--- a making that is done
-abbrev pub flowMade : Making → Flow
-flowMade new = none
-flowMade (withCapacity k) = none
-flowMade (fromElem k x) = enters (replicate k x)
+-- A rule of the ledger: where the call is done, the list after it, and what it enters, hands out and drops, by its value v and the list l before it.
+pub record Rule : Type 0 where
+  pub after : (l : List ℕ) → List ℕ
+  pub flow : (v : ℕ) (l : List ℕ) → Flow
 
--- A line of the ledger: what was called, on which containers, and the number and value answered.
+-- of a call on two, with both their lists
+pub record Rule2 : Type 0 where
+  pub after : (l l2 : List ℕ) → List ℕ × List ℕ
+  pub flow : (v : ℕ) (l l2 : List ℕ) → Flow
+
+-- the rules of paper 01's calls
+abbrev pub rule : Call → Rule
+rule call = record { after = after call; flow = flow call }
+
+abbrev pub rule2 : Call2 → Rule2
+rule2 call = record { after = after2 call; flow = λ v l l2. flow2 call l }
+
+-- the first where the number answered is 0, the second where the call was refused
+abbrev pub ifDone : {A : Type 0} → ℕ → A → A → A
+ifDone zero f g = f
+ifDone (suc m) f g = g
+
+-- the rule that an answer goes by: a refused call leaves the lists and does none of these
+abbrev pub goesBy : (number : ℕ) → Rule → Rule
+goesBy number r = ifDone number r (record { after = λ l. l; flow = λ v l. none })
+
+abbrev pub goesBy2 : (number : ℕ) → Rule2 → Rule2
+goesBy2 number r = ifDone number r (record { after = λ l l2. (l, l2); flow = λ v l l2. none })
+
+-- A line of the ledger: the list that a making begins with, or the rule of a call and the containers that it names, with the number and value answered.
 pub data Line : Type 0 where
-  making : Making → (number : ℕ) → Line
-  call : (i : ℕ) → Call → (number value : ℕ) → Line
-  callTwo : (i j : ℕ) → Call2 → (number : ℕ) → Line
+  making : (l : List ℕ) (number : ℕ) → Line
+  call : (i : ℕ) → Rule → (number value : ℕ) → Line
+  callTwo : (i j : ℕ) → Rule2 → (number value : ℕ) → Line
 
 -- the model lists: one for each container, in the order of the makings
 abbrev pub Lists : Type 0
@@ -69,26 +92,21 @@ Lists = List (List ℕ)
 abbrev pub listAt : Lists → ℕ → List ℕ
 listAt ls i = getD ls i []
 
--- a refused call does nothing: the first argument is the number answered
-abbrev pub ifDone : {A : Type 0} → ℕ → A → A → A
-ifDone zero f g = f
-ifDone (suc m) f g = g
-
 -- the lists of two after a call on them
 abbrev pub setTwo : Lists → (i j : ℕ) → List ℕ × List ℕ → Lists
 setTwo ls i j two = set (set ls i (two .0)) j (two .1)
 
 -- the model lists after a line
 abbrev pub listsAfter : Lists → Line → Lists
-listsAfter ls (making m number) = ls ++ (ifDone number (begins m) [] ∷ [])
-listsAfter ls (call i what number v) = ifDone number (set ls i (after what (listAt ls i))) ls
-listsAfter ls (callTwo i j what number) = ifDone number (setTwo ls i j (after2 what (listAt ls i) (listAt ls j))) ls
+listsAfter ls (making l number) = ls ++ (ifDone number l [] ∷ [])
+listsAfter ls (call i r number v) = set ls i (goesBy number r .after (listAt ls i))
+listsAfter ls (callTwo i j r number v) = setTwo ls i j (goesBy2 number r .after (listAt ls i) (listAt ls j))
 
--- what a line entered, handed out and dropped
+-- what a line entered, handed out and dropped; what a making begins with enters
 abbrev pub flows : Lists → Line → Flow
-flows ls (making m number) = ifDone number (flowMade m) none
-flows ls (call i what number v) = ifDone number (flow what v (listAt ls i)) none
-flows ls (callTwo i j what number) = ifDone number (flow2 what (listAt ls i)) none
+flows ls (making l number) = enters (ifDone number l [])
+flows ls (call i r number v) = goesBy number r .flow v (listAt ls i)
+flows ls (callTwo i j r number v) = goesBy2 number r .flow v (listAt ls i) (listAt ls j)
 
 -- the lists after a sequence of lines
 abbrev pub modelled : Lists → List Line → Lists

@@ -7,4 +7,5 @@ pub mod Does
 pub mod Parts
 pub mod Tested
 pub mod Ledger
+pub mod Promise
 pub mod World

@@ -9,7 +9,7 @@ use Rattle.slots.specs.Layout.{vector}
 use Rattle.table.specs.Calls.{look, len, isEmpty, read, reserve, tryReserve, tryReserveExact, range, new, withCapacity, fromElem}
 use Rattle.table.specs.Calls.{write, push, pop, insert, remove, swapRemove, truncate, resize, clear, extend}
 use Rattle.table.specs.World.{World, make, on, Ours}
-use Rattle.table.proofs.Named.{Is, ours-on}
+use Rattle.table.proofs.Named.{Is, ours-make, ours-on}
 use Rattle.vector.specs.Seen.{tray, seen}
 use Rattle.vector.proofs.Vector as fns
 
@@ -17,15 +17,15 @@ use Rattle.vector.proofs.Vector as fns
 module _ (w : World) (κs : Lfts 1) where
   pub new-ours : (a : ArgsD fns.new.signature κs) (r : ResD fns.new.signature κs) (e : AtExit fns.new.ended κs)
       → fns.new.Reads.Learnt κs a r e → Ours w (make vector new (now (a .0)) (seen r (now (a .0))))
-  new-ours a r e learnt = (refl, learnt)
+  new-ours a r e learnt = ours-make w _ _ _ _ refl learnt
 
   pub with-capacity-ours : (a : ArgsD fns.with_capacity.signature κs) (r : ResD fns.with_capacity.signature κs) (e : AtExit fns.with_capacity.ended κs)
       → fns.with_capacity.Reads.Learnt κs a r e → Ours w (make vector (withCapacity (a .1 .0)) (now (a .0)) (seen r (now (a .0))))
-  with-capacity-ours a r e learnt = (refl, learnt)
+  with-capacity-ours a r e learnt = ours-make w _ _ _ _ refl learnt
 
   pub from-elem-ours : (a : ArgsD fns.from_elem.signature κs) (r : ResD fns.from_elem.signature κs) (e : AtExit fns.from_elem.ended κs)
       → fns.from_elem.Reads.Learnt κs a r e → Ours w (make vector (fromElem (a .1 .0) (a .1 .1 .0)) (now (a .0)) (seen r (now (e .0))))
-  from-elem-ours a r e learnt = (refl, learnt)
+  from-elem-ours a r e learnt = ours-make w _ _ _ _ refl learnt
 
 module _ (w : World) (i : ℕ) (κs : Lfts 1) where
   pub len-ours : (a : ArgsD fns.len.signature κs) (r : ResD fns.len.signature κs) (e : AtExit fns.len.ended κs)

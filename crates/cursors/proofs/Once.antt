@@ -1,5 +1,5 @@
 -- One answer: any two results that meet a call's generated contract on the same arguments are the same, and so are the contents that from_iter leaves
--- in T's slots. The step is read back from the number, the value and the cursor. Assumes nothing.
+-- in T's slots. The step is read back from the number, the value and the cursor.
 use Prim.Native.Nat.{ℕ, zero, suc}
 use mathlib.Core.Path.{_≡_, refl, sym, ap, _∙_}
 use mathlib.Core.List.{List}

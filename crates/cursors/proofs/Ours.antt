@@ -1,4 +1,4 @@
--- Each call of this crate is an event of demand 3: what a caller learns of it is what `Ours` asks. Assumes nothing.
+-- Each call of this crate is an event of demand 3: what a caller learns of it is what `Ours` asks.
 use Prim.Native.Nat.{ℕ}
 use mathlib.Core.Path.{refl}
 use contract.Lifetimes.{Lfts}
@@ -8,7 +8,7 @@ use borrow.Fn.World.{ArgsD, ResD}
 use Rattle.slots.specs.Layout.{ring, vector}
 use Rattle.table.specs.Calls.{look, iter, intoIter, stepFront, stepBack, peekFront, peekBack, fromIter}
 use Rattle.table.specs.World.{World, on, onTwo, Ours}
-use Rattle.table.proofs.Named.{Is, Are, ours-on, ours-on-two}
+use Rattle.table.proofs.Laws.Named.{Is, Are, ours-on, ours-on-two}
 use Rattle.ring.specs.Seen as rings
 use Rattle.vector.specs.Seen as vectors
 use Rattle.cursors.specs.Seen.{cursor, seen, seenBegun, seenInto}

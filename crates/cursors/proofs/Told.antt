@@ -1,15 +1,14 @@
 -- A step is made where it is returned, and `seen` computes on it; what iter and from_iter answer is made by a function, as other answers are.
--- Assumes nothing.
 use mathlib.Core.Path.{_≡_, ap}
 use mathlib.Core.List.{List}
 use Prim.Native.Nat.{ℕ}
 use Rattle.slots.specs.Layout.{Kind}
 use Rattle.table.specs.Tray.{Tray, nowhere}
 use Rattle.table.specs.Does.{refused, refused2, headIn}
-use Rattle.table.proofs.Stops.{stops}
-use Rattle.table.proofs.Refusals
-use Rattle.table.proofs.Looks.{shows}
-use Rattle.table.proofs.Done2.{fills}
+use Rattle.table.proofs.Laws.Stops.{stops}
+use Rattle.table.proofs.Laws.Refusals
+use Rattle.table.proofs.Laws.Looks.{shows}
+use Rattle.table.proofs.Laws.Done2.{fills}
 use Rattle.vector.specs.declared.Vector.{Vector}
 use Rattle.vector.specs.Seen.{tray}
 use Rattle.cursors.specs.declared.Cursor.{Cursor}

@@ -1,6 +1,5 @@
 -- Upstream's clauses of iterators, each from the generated contract of its function, by the table's law of the call. Upstream's
 -- `remaining` and `into_iter_elts` are the entries from the cursor's front to its back. What a step does to them no clause says; paper 01 decides it.
--- Assumes nothing.
 use Prim.Native.Nat.{ℕ, _-_}
 use mathlib.Core.Path.{_≡_}
 use mathlib.Core.List.{List, [], _∷_, _++_}
@@ -10,10 +9,10 @@ use denote.Ref.{RefT, now}
 use denote.Triple.Clauses.{AtExit}
 use Rattle.slots.specs.Layout.{ring, vector}
 use Rattle.table.specs.Table.{remaining}
-use Rattle.table.proofs.Upstream.{IfInside, IfSome}
-use Rattle.table.proofs.UpstreamTwo.{IfTakes}
-use Rattle.table.proofs.UpstreamWalks as law
-use Rattle.table.proofs.UpstreamWalks.{InOrder}
+use Rattle.table.proofs.Theorems.Upstream.{IfInside, IfSome}
+use Rattle.table.proofs.Theorems.UpstreamTwo.{IfTakes}
+use Rattle.table.proofs.Theorems.UpstreamWalks as law
+use Rattle.table.proofs.Theorems.UpstreamWalks.{InOrder}
 use Rattle.ring.specs.declared.Ring.{Ring}
 use Rattle.vector.specs.declared.Vector.{Vector}
 use Rattle.ring.proofs.Upstream as rings

@@ -1,4 +1,4 @@
--- How the code's cursor and answers are read: the number, value and cursor of paper 01 for each case. Assumes nothing.
+-- How the code's cursor and answers are read: the number, value and cursor of paper 01 for each case.
 use Prim.Native.Nat.{ℕ}
 use mathlib.Core.List.{List}
 use Rattle.table.specs.Tray.{Tray, Cursor}

@@ -180,7 +180,7 @@ impl Cursor {
         }
         let count = back - front;
         let from = slots::slot(cap, head, front);
-        slots::copy::carry(theirs, 0, 0, slots, from, count);
+        runs::copy::carry(theirs, 0, 0, slots, from, count);
         took(0, Cursor { front: back, back }, Vector { len: count })
     }
 }

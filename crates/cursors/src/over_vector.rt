@@ -173,7 +173,7 @@ impl Cursor {
             return took(6, self, to);
         }
         let count = back - front;
-        slots::copy::run_copy(theirs, 0, &slots[front..], count);
+        runs::copy::run_copy(theirs, 0, &slots[front..], count);
         took(0, Cursor { front: back, back }, Vector { len: count })
     }
 }

@@ -1,5 +1,5 @@
 -- One answer: any two results that meet a call's generated contract on the same arguments are the same, and so are the contents that they leave in
--- the slots which the call may write. Assumes nothing.
+-- the slots which the call may write.
 use Prim.Native.Nat.{ℕ}
 use mathlib.Core.Path.{_≡_, refl}
 use mathlib.Core.List.{List}
@@ -8,7 +8,7 @@ use denote.Ref.{now}
 use denote.Triple.Clauses.{AtExit}
 use borrow.Fn.World.{ArgsD, ResD}
 use Rattle.table.specs.Does.{Outcome2}
-use Rattle.table.proofs.Unique.{one-answer2}
+use Rattle.table.proofs.Theorems.Unique.{one-answer2}
 use Rattle.pairs.specs.declared.rings.Both.{Both}
 use Rattle.pairs.specs.Rings.{seen2}
 use Rattle.pairs.proofs.rings as fn

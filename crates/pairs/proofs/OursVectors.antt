@@ -1,4 +1,4 @@
--- Each call of `pairs::vectors` is an event of demand 3 on two containers: what a caller learns of it is what `Ours` asks. Assumes nothing.
+-- Each call of `pairs::vectors` is an event of demand 3 on two containers: what a caller learns of it is what `Ours` asks.
 use Prim.Native.Nat.{ℕ}
 use mathlib.Core.Path.{refl}
 use contract.Lifetimes.{Lfts}
@@ -8,7 +8,7 @@ use borrow.Fn.World.{ArgsD, ResD}
 use Rattle.slots.specs.Layout.{vector}
 use Rattle.table.specs.Calls.{append, splitOff, clone, equal}
 use Rattle.table.specs.World.{World, onTwo, Ours}
-use Rattle.table.proofs.Named.{Are, ours-on-two}
+use Rattle.table.proofs.Laws.Named.{Are, ours-on-two}
 use Rattle.vector.specs.Seen.{tray}
 use Rattle.pairs.specs.Vectors.{seen2}
 use Rattle.pairs.proofs.vectors as fn

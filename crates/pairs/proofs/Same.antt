@@ -1,5 +1,5 @@
 -- Ring sameness in paper 01's words, from the generated contract of `pairs::rings::same`: of two valid rings the value is 1 exactly when capacity, head,
--- length and all occupied slots agree, and else 0. Assumes nothing.
+-- length and all occupied slots agree, and else 0.
 use Prim.Native.Nat.{ℕ, _<_}
 use mathlib.Core.Path.{_≡_, refl, sym, ap, _∙_}
 use mathlib.Core.Bool.{Bool, true, false, cond, true≢false, false≢true}
@@ -19,11 +19,11 @@ use Rattle.slots.proofs.Placing.{entry, length-entries}
 use Rattle.table.specs.Tray.{Tray, cap, list, invalid}
 use Rattle.table.specs.Calls.{same}
 use Rattle.table.specs.Table.{equalLists}
-use Rattle.table.proofs.Valid.{fit, and-left, and-right}
-use Rattle.table.proofs.Equal.{tells-equal, alike}
-use Rattle.table.proofs.Listed.{two-listed}
-use Rattle.table.proofs.Upstream.{Says}
-use Rattle.table.proofs.UpstreamTwo.{numbered2}
+use Rattle.table.proofs.Laws.Valid.{fit, and-left, and-right}
+use Rattle.table.proofs.Laws.Equal.{tells-equal, alike}
+use Rattle.table.proofs.Theorems.Listed.{two-listed}
+use Rattle.table.proofs.Theorems.Upstream.{Says}
+use Rattle.table.proofs.Theorems.UpstreamTwo.{numbered2}
 use Rattle.ring.specs.declared.Ring.{Ring}
 use Rattle.ring.specs.Seen.{tray}
 use Rattle.ring.proofs.Upstream.{Valid}

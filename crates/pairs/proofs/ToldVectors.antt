@@ -1,11 +1,11 @@
--- An answer of `pairs::vectors` that refuses is a refused outcome, and one that is done gives its numbers. Assumes nothing.
+-- An answer of `pairs::vectors` that refuses is a refused outcome, and one that is done gives its numbers.
 use mathlib.Core.Path.{_≡_, ap}
 use mathlib.Core.List.{List}
 use Prim.Native.Nat.{ℕ}
 use Rattle.table.specs.Tray.{nowhere}
 use Rattle.table.specs.Does.{refused2}
-use Rattle.table.proofs.Refusals
-use Rattle.table.proofs.Done2.{gives2}
+use Rattle.table.proofs.Laws.Refusals
+use Rattle.table.proofs.Laws.Done2.{gives2}
 use Rattle.vector.specs.declared.Vector.{Vector}
 use Rattle.vector.specs.Seen.{tray}
 use Rattle.pairs.specs.declared.vectors.Both.{Both}

@@ -1,5 +1,5 @@
 -- Upstream's clauses of `vecdeque.rs` on two rings, each from the generated contract of its function in `pairs::rings`, by the table's law of the same
--- name. Assumes nothing.
+-- name.
 use Prim.Native.Nat.{ℕ, _<_}
 use mathlib.Core.Path.{_≡_}
 use mathlib.Core.List.{List, [], _++_}
@@ -8,9 +8,9 @@ use contract.Lifetimes.{Lfts}
 use denote.Ref.{RefT, now}
 use denote.Triple.Clauses.{AtExit}
 use Rattle.slots.specs.Layout.{ring}
-use Rattle.table.proofs.Upstream.{IfRoom}
-use Rattle.table.proofs.UpstreamTwo as law
-use Rattle.table.proofs.UpstreamTwo.{IfTakes, IfSplits}
+use Rattle.table.proofs.Theorems.Upstream.{IfRoom}
+use Rattle.table.proofs.Theorems.UpstreamTwo as law
+use Rattle.table.proofs.Theorems.UpstreamTwo.{IfTakes, IfSplits}
 use Rattle.ring.specs.declared.Ring.{Ring}
 use Rattle.ring.proofs.Upstream.{view, Valid}
 use Rattle.pairs.specs.declared.rings.Both.{Both}

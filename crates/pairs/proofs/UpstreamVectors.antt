@@ -1,5 +1,5 @@
 -- Upstream's clauses of `vec.rs` on two vectors, each from the generated contract of its function in `pairs::vectors`, by the table's law of the same
--- name. Assumes nothing.
+-- name.
 use Prim.Native.Nat.{ℕ, _<_}
 use mathlib.Core.Path.{_≡_}
 use mathlib.Core.List.{List, [], _++_}
@@ -9,9 +9,9 @@ use contract.Lifetimes.{Lfts}
 use denote.Ref.{RefT, now}
 use denote.Triple.Clauses.{AtExit}
 use Rattle.slots.specs.Layout.{vector}
-use Rattle.table.proofs.Upstream.{Says, IfRoom}
-use Rattle.table.proofs.UpstreamTwo as law
-use Rattle.table.proofs.UpstreamTwo.{IfTakes, IfSplits, EqSpec}
+use Rattle.table.proofs.Theorems.Upstream.{Says, IfRoom}
+use Rattle.table.proofs.Theorems.UpstreamTwo as law
+use Rattle.table.proofs.Theorems.UpstreamTwo.{IfTakes, IfSplits, EqSpec}
 use Rattle.vector.specs.declared.Vector.{Vector}
 use Rattle.vector.proofs.Upstream.{view, Valid}
 use Rattle.pairs.specs.declared.vectors.Both.{Both}

@@ -1,4 +1,4 @@
--- How an answer of `pairs::rings` is read: two rings and their slots are two trays, an answer and both runs of slots are an outcome. Assumes nothing.
+-- How an answer of `pairs::rings` is read: two rings and their slots are two trays, an answer and both runs of slots are an outcome.
 use Prim.Native.Nat.{ℕ}
 use mathlib.Core.List.{List}
 use Rattle.table.specs.Tray.{nowhere}

@@ -38,8 +38,8 @@ pub fn append(first: Ring, slots: &mut [u32], second: Ring, theirs: &mut [u32]) 
     if count == 0 {
         return done(0, head, len, 0, 0);
     }
-    slots::copy::carry(slots, head, len, theirs, from, count);
-    slots::fill(theirs, from, 0, count, 0);
+    runs::copy::carry(slots, head, len, theirs, from, count);
+    runs::fill(theirs, from, 0, count, 0);
     done(0, head, len + count, 0, 0)
 }
 
@@ -77,8 +77,8 @@ pub fn split_off(
         return done(0, head, len, 0, 0);
     }
     let from = slots::slot(cap, head, at);
-    slots::copy::carry(theirs, 0, 0, slots, from, len - at);
-    slots::fill(slots, head, at, len, 0);
+    runs::copy::carry(theirs, 0, 0, slots, from, len - at);
+    runs::fill(slots, head, at, len, 0);
     done(0, head, at, 0, len - at)
 }
 
@@ -105,7 +105,7 @@ pub fn clone(first: Ring, slots: &[u32], second: Ring, theirs: &mut [u32]) -> Bo
     if len == 0 {
         return done(0, head, len, 0, 0);
     }
-    slots::copy::carry(theirs, 0, 0, slots, head, len);
+    runs::copy::carry(theirs, 0, 0, slots, head, len);
     done(0, head, len, 0, len)
 }
 
@@ -134,7 +134,7 @@ pub fn same(first: Ring, slots: &[u32], second: Ring, theirs: &[u32]) -> Both
     if len != count {
         return done(0, head, len, from, count);
     }
-    if slots::compare::rings(slots, theirs, head, len) {
+    if runs::compare::rings(slots, theirs, head, len) {
         return done(1, head, len, from, count);
     }
     done(0, head, len, from, count)

@@ -32,8 +32,8 @@ pub fn append(first: Vector, slots: &mut [u32], second: Vector, theirs: &mut [u3
     if cap - len < count {
         return refused(6, first, second);
     }
-    slots::copy::run_copy(slots, len, theirs, count);
-    slots::run_fill(theirs, 0, count, 0);
+    runs::copy::run_copy(slots, len, theirs, count);
+    runs::run_fill(theirs, 0, count, 0);
     done(0, len + count, 0)
 }
 
@@ -65,8 +65,8 @@ pub fn split_off(
     if room < len - at {
         return refused(6, first, second);
     }
-    slots::copy::run_copy(theirs, 0, &slots[at..], len - at);
-    slots::run_fill(slots, at, len, 0);
+    runs::copy::run_copy(theirs, 0, &slots[at..], len - at);
+    runs::run_fill(slots, at, len, 0);
     done(0, at, len - at)
 }
 
@@ -89,7 +89,7 @@ pub fn clone(first: Vector, slots: &[u32], second: Vector, theirs: &mut [u32]) -
     if room < len {
         return refused(6, first, second);
     }
-    slots::copy::run_copy(theirs, 0, slots, len);
+    runs::copy::run_copy(theirs, 0, slots, len);
     done(0, len, len)
 }
 
@@ -105,7 +105,7 @@ pub fn equal(first: Vector, slots: &[u32], second: Vector, theirs: &[u32]) -> Bo
     if table::invalid_vector(theirs.len(), count) {
         return refused(2, first, second);
     }
-    if slots::compare::parts(&slots[..len], &theirs[..count]) {
+    if runs::compare::parts(&slots[..len], &theirs[..count]) {
         return done(1, len, count);
     }
     done(0, len, count)

@@ -1,14 +1,14 @@
 // Reads lines from standard input and prints what each leaves: the reading and the writing only. docs/REPLAY.md has the lines.
 use libc::STDIN_FILENO;
 use libc::STDOUT_FILENO;
-use trial::desks::Desk;
-use trial::lines::Asked;
-use trial::lines::Verdict;
-use trial::places::Placed;
-use trial::tells::Told;
+use replay_lines::desks::Desk;
+use replay_lines::lines::Asked;
+use replay_lines::lines::Verdict;
+use replay_lines::places::Placed;
+use replay_lines::tells::Told;
 ghost use Prim.Native.Nat.{_+_, _*_, _≤_};
 ghost use lib.ListN.{length};
-ghost use Rattle.trial.specs.Tells.{Enough};
+ghost use Rattle.replay_lines.specs.Tells.{Enough};
 
 // Between two bytes: what is placed, the first 35 bytes of the line begun, which tell that it is too long, and whether the output takes more.
 struct Between {
@@ -55,15 +55,15 @@ fn told(q: Asked, d: Desk, slots: &mut [u32], theirs: &mut [u32], out: &mut [u8]
 {
     let op = q.op;
     if op < 56 {
-        return trial::tells::tell(q, d, slots, theirs, out);
+        return replay_lines::tells::tell(q, d, slots, theirs, out);
     }
     if op < 60 {
-        return trial::parts::tell_part(q, d, slots, theirs, out);
+        return replay_lines::parts::tell_part(q, d, slots, theirs, out);
     }
     if op < 62 {
-        return trial::parts::tell_mut_part(q, d, slots, theirs, out);
+        return replay_lines::parts::tell_mut_part(q, d, slots, theirs, out);
     }
-    trial::tells::tell(q, d, slots, theirs, out)
+    replay_lines::tells::tell(q, d, slots, theirs, out)
 }
 
 // A call on as many of the lent slots as the containers have.
@@ -90,7 +90,7 @@ fn call(
     }
     let n = least(q.a, 40000);
     let part = &mut text[0..n];
-    let t = trial::texts::tell_text(q, d, slots, theirs, part, out);
+    let t = replay_lines::texts::tell_text(q, d, slots, theirs, part, out);
     let desk = t.desk;
     let after = put(p, desk, out, t.count);
     io::write_all(STDOUT_FILENO, part);
@@ -109,11 +109,11 @@ fn answer(
 ) -> After
     requires { ⌜ Enough (now first) (now second) (now text) (now out) ⌝ }
 {
-    match trial::lines::judge(line, p.cap, p.cap2) {
+    match replay_lines::lines::judge(line, p.cap, p.cap2) {
         Verdict::Taken(q) => {
             let op = q.op;
             if op < 16 {
-                let placed = trial::places::place(q, p, first, second);
+                let placed = replay_lines::places::place(q, p, first, second);
                 return After { placed, open: true };
             }
             call(q, p, first, second, text, out)

@@ -1,5 +1,5 @@
 -- One answer: any two results that meet a call's generated contract on the same arguments are the same, and so are the contents of its slots
--- that they come with. Assumes nothing.
+-- that they come with.
 use Prim.Native.Nat.{ℕ}
 use mathlib.Core.Path.{_≡_, refl}
 use mathlib.Core.List.{List}
@@ -8,7 +8,7 @@ use denote.Ref.{now}
 use denote.Triple.Clauses.{AtExit}
 use borrow.Fn.World.{ArgsD, ResD}
 use Rattle.table.specs.Does.{Outcome}
-use Rattle.table.proofs.Unique.{one-answer}
+use Rattle.table.proofs.Theorems.Unique.{one-answer}
 use Rattle.ring.specs.declared.Answer.{Answer}
 use Rattle.ring.specs.Seen.{seen}
 use Rattle.ring.proofs.Ring as fn

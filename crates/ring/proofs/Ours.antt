@@ -1,4 +1,4 @@
--- Each call of this crate is an event of demand 3: what a caller learns of it, its generated contract, is what `Ours` asks. Assumes nothing.
+-- Each call of this crate is an event of demand 3: what a caller learns of it, its generated contract, is what `Ours` asks.
 use Prim.Native.Nat.{ℕ}
 use mathlib.Core.Path.{refl}
 use contract.Lifetimes.{Lfts}
@@ -9,7 +9,7 @@ use Rattle.slots.specs.Layout.{ring}
 use Rattle.table.specs.Calls.{new, withCapacity, look, len, read, reserve}
 use Rattle.table.specs.Calls.{write, push, pushFront, pop, popFront, insert, remove, truncate, resize, clear}
 use Rattle.table.specs.World.{World, make, on, Ours}
-use Rattle.table.proofs.Named.{Is, ours-make, ours-on}
+use Rattle.table.proofs.Laws.Named.{Is, ours-make, ours-on}
 use Rattle.ring.specs.Seen.{tray, seen}
 use Rattle.ring.proofs.Ring as fn
 

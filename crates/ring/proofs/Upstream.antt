@@ -1,5 +1,5 @@
 -- Upstream's clauses of `vecdeque.rs`, each from the generated contract of its function, `Learnt`: what a caller knows of a call. One line each, by the
--- table's law of the call. Assumes nothing.
+-- table's law of the call.
 use Prim.Native.Nat.{ℕ, _-_, _≤_, _<_}
 use mathlib.Core.Path.{_≡_}
 use mathlib.Core.Bool.{false}
@@ -12,8 +12,8 @@ use Rattle.slots.specs.Lists.{update, insertAt, removeAt}
 use Rattle.slots.specs.Layout.{ring}
 use Rattle.table.specs.Tray.{list, invalid}
 use Rattle.table.specs.Calls.{pop, popFront, remove}
-use Rattle.table.proofs.Upstream as law
-use Rattle.table.proofs.Upstream.{IfInside, IfSome, IfFree, IfRoom, IfHolds, IfInserts}
+use Rattle.table.proofs.Theorems.Upstream as law
+use Rattle.table.proofs.Theorems.Upstream.{IfInside, IfSome, IfFree, IfRoom, IfHolds, IfInserts}
 use Rattle.ring.specs.declared.Ring.{Ring}
 use Rattle.ring.specs.declared.Answer.{Answer}
 use Rattle.ring.specs.Seen.{tray}

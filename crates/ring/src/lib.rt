@@ -52,7 +52,7 @@ impl Ring {
         if table::invalid_ring(cap, head, len) {
             return refused(1, self);
         }
-        done(len as u32, 0, head, len)
+        done(runs::word(len), 0, head, len)
     }
 
     pub fn read(self, slots: &[u32], i: usize) -> Answer
@@ -192,12 +192,12 @@ impl Ring {
         }
         if i < len - i {
             let front = slots::slot(cap, head, cap - 1);
-            slots::shift_down(slots, front, 0, i);
+            runs::shift_down(slots, front, 0, i);
             let at = slots::slot(cap, front, i);
             slots[at] = x;
             return done(0, i, front, len + 1);
         }
-        slots::shift_up(slots, head, i, len);
+        runs::shift_up(slots, head, i, len);
         let at = slots::slot(cap, head, i);
         slots[at] = x;
         done(0, len - i, head, len + 1)
@@ -220,11 +220,11 @@ impl Ring {
         let at = slots::slot(cap, head, i);
         let old = slots[at];
         if i < last - i {
-            slots::shift_up(slots, head, 0, i);
+            runs::shift_up(slots, head, 0, i);
             slots[head] = 0;
             return done(old, i, slots::slot(cap, head, 1), last);
         }
-        slots::shift_down(slots, head, i, last);
+        runs::shift_down(slots, head, i, last);
         let freed = slots::slot(cap, head, last);
         slots[freed] = 0;
         done(old, last - i, head, last)
@@ -243,7 +243,7 @@ impl Ring {
         if len <= k {
             return done(0, 0, head, len);
         }
-        slots::fill(slots, head, k, len, 0); // a free slot keeps what it held
+        runs::fill(slots, head, k, len, 0); // a free slot keeps what it held
         done(0, 0, head, k)
     }
 
@@ -260,11 +260,11 @@ impl Ring {
             return refused(6, self);
         }
         if k < len {
-            slots::fill(slots, head, k, len, 0);
+            runs::fill(slots, head, k, len, 0);
             return done(0, 0, head, k);
         }
         if len < k {
-            slots::fill(slots, head, len, k, x);
+            runs::fill(slots, head, len, k, x);
             return done(0, 0, head, k);
         }
         done(0, 0, head, len)
@@ -282,7 +282,7 @@ impl Ring {
         if len == 0 {
             return done(0, 0, 0, 0);
         }
-        slots::fill(slots, head, 0, len, 0);
+        runs::fill(slots, head, 0, len, 0);
         done(0, 0, 0, 0)
     }
 }

@@ -1,5 +1,5 @@
 -- What a comparison by parts tells: two lists agree entry by entry, and a ring's entries stand in one part of its slots or in two that meet at
--- slot 0. Assumes nothing.
+-- slot 0.
 use mathlib.Core.Path.{_≡_, sym, ap, _∙_}
 use mathlib.Core.Bool.{Bool, true, false}
 use mathlib.Core.List.{List, _++_}

@@ -1,5 +1,5 @@
 -- Numbers laid over any placing: a loop's turn, a ring's run made of runs of slots, another ring's entries, and what the longer list makes of the
--- slots. Assumes nothing.
+-- slots.
 use mathlib.Core.Path.{_≡_, refl, sym, ap, _∙_}
 use mathlib.Core.List.{List, [], _++_}
 use mathlib.Core.Logic.{⊎-elim}

@@ -1,4 +1,4 @@
--- Which entries a call moves, position by position, and so how many, where they are one run of positions. Over any two placings. Assumes nothing.
+-- Which entries a call moves, position by position, and so how many, where they are one run of positions. Over any two placings.
 use mathlib.Core.Path.{_≡_, refl, sym, ap, _∙_}
 use mathlib.Core.Bool.{Bool, true, false, not}
 use mathlib.Core.Logic.{⊎-elim}

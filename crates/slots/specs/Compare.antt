@@ -1,4 +1,4 @@
--- What a comparison tells of two lists: yes exactly when they are equal. Assumes nothing.
+-- What a comparison tells of two lists: yes exactly when they are equal.
 use mathlib.Core.Path.{_≡_}
 use mathlib.Core.Bool.{Bool, true, false}
 use mathlib.Core.List.{List}

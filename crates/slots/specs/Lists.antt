@@ -1,4 +1,4 @@
--- The list words of paper 01, all zero-based; [..k], [k..] and + are the library's `take`, `drop` and `++`. Assumes nothing.
+-- The list words of paper 01, all zero-based; [..k], [k..] and + are the library's `take`, `drop` and `++`.
 use Prim.Native.Nat.{ℕ, zero, suc}
 use mathlib.Core.List.{List, [], _∷_, _++_}
 use lib.ListN.{take, drop, set}

@@ -1,4 +1,4 @@
--- How a call carries positions, and the count of entries that changed their slot under this carrying. Assumes nothing.
+-- How a call carries positions, and the count of entries that changed their slot under this carrying.
 use Prim.Native.Nat.{ℕ, _+_, _-_}
 use mathlib.Core.Bool.{Bool, false, not, cond}
 use lib.Dec.{ltb, eqb}

@@ -1,4 +1,4 @@
--- The lines of a stored text, put one after another, are the whole text; and how long it is. Assumes nothing.
+-- The lines of a stored text, put one after another, are the whole text; and how long it is.
 use mathlib.Core.Path.{_≡_, refl, sym, ap, _∙_}
 use mathlib.Core.List.{List, [], _∷_, _++_}
 use Prim.Native.Nat.{ℕ, _+_, _*_, _≤_, _<_}
@@ -9,9 +9,9 @@ use lib.Seq.{drop-cons}
 use Rattle.slots.specs.Layout.{Kind}
 use Rattle.table.specs.Tray.{Tray, cap}
 use Rattle.table.specs.Does.{headIn}
-use Rattle.hex.specs.Hex.{hex, lf, atStart}
-use Rattle.hex.specs.Put.{put}
-use Rattle.hex.proofs.Puts.{put-after, after-hex, put-ended, put-start, length-hex}
+use Rattle.digits.specs.Hex.{hex, lf, atStart}
+use Rattle.digits.specs.Put.{put}
+use Rattle.digits.proofs.Puts.{put-after, after-hex, put-ended, put-start, length-hex}
 use Rattle.stored.specs.Form.{kindByte, stateDigits, firstLine, slotLine, slotLines, form, size}
 
 -- the numbers of the first line, each where the one before it ends

@@ -1,4 +1,4 @@
--- The writer's promise leaves one answer and one content of the text: from each function's generated contract. Assumes nothing.
+-- The writer's promise leaves one answer and one content of the text: from each function's generated contract.
 use mathlib.Core.Path.{_≡_, refl, sym, ap, _∙_}
 use mathlib.Core.List.{List}
 use Prim.Native.Nat.{ℕ}

@@ -1,11 +1,11 @@
--- Stored texts worked out byte by byte: W of paper 01, a text that is too short, an invalid container. Assumes nothing.
+-- Stored texts worked out byte by byte: W of paper 01, a text that is too short, an invalid container.
 use mathlib.Core.Path.{_≡_, refl}
 use mathlib.Core.List.{List, [], _∷_, _++_}
 use Prim.Native.Nat.{ℕ}
 use Rattle.slots.specs.Layout.{ring, vector}
 use Rattle.table.specs.Tray.{Tray, valid, nowhere}
 use Rattle.table.specs.Does.{gives, refused}
-use Rattle.hex.specs.Hex.{hex}
+use Rattle.digits.specs.Hex.{hex}
 use Rattle.stored.specs.Form.{stateDigits, firstLine, slotLine, slotLines, form}
 use Rattle.stored.specs.Written.{Written, writes}
 

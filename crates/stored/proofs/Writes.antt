@@ -1,4 +1,4 @@
--- The writer where it is done, for ring and vector at once, and what an answer of this crate is read as. Assumes nothing.
+-- The writer where it is done, for ring and vector at once, and what an answer of this crate is read as.
 use mathlib.Core.Path.{_≡_, ap}
 use mathlib.Core.Bool.{false}
 use mathlib.Core.List.{List}
@@ -8,8 +8,8 @@ use lib.ListN.{length}
 use Rattle.slots.specs.Layout.{Kind, ring, vector}
 use Rattle.table.specs.Tray.{Tray, cap, invalid, nowhere}
 use Rattle.table.specs.Does.{gives, refused, headIn}
-use Rattle.table.proofs.Refusals
-use Rattle.hex.specs.Put.{put}
+use Rattle.table.proofs.Laws.Refusals
+use Rattle.digits.specs.Put.{put}
 use Rattle.ring.specs.declared.Ring.{Ring}
 use Rattle.ring.specs.declared.Answer as ringAnswer
 use Rattle.ring.specs.Seen as rings

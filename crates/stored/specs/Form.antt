@@ -1,10 +1,10 @@
--- The stored form of a container, byte by byte, as paper 01 gives it. Assumes nothing.
+-- The stored form of a container, byte by byte, as paper 01 gives it.
 use Prim.Native.Nat.{ℕ, _+_, _*_}
 use mathlib.Core.List.{List, [], _∷_, _++_}
 use Rattle.slots.specs.Layout.{Kind, ring, vector}
 use Rattle.table.specs.Tray.{Tray, cap}
 use Rattle.table.specs.Does.{headIn}
-use Rattle.hex.specs.Hex.{hex, lf}
+use Rattle.digits.specs.Hex.{hex, lf}
 
 -- 00 is a ring, 01 a vector
 abbrev pub kindByte : Kind → ℕ

@@ -1,4 +1,4 @@
--- How the code's answers are read: the container's answer, with the text. Assumes nothing.
+-- How the code's answers are read: the container's answer, with the text.
 use Prim.Native.Nat.{ℕ}
 use mathlib.Core.List.{List}
 use Rattle.ring.specs.declared.Ring.{Ring}

@@ -1,4 +1,4 @@
--- What the writer of the stored form gives: the answer with the container as it was, and the text afterwards. Assumes nothing.
+-- What the writer of the stored form gives: the answer with the container as it was, and the text afterwards.
 use Prim.Native.Nat.{ℕ}
 use mathlib.Core.List.{List, [], _∷_}
 use lib.ListN.{length}
@@ -7,7 +7,7 @@ use Rattle.slots.specs.Layout.{Kind}
 use Rattle.table.specs.Tray.{Tray, cap, invalid, nowhere}
 use Rattle.table.specs.Table.{firstInvalid, full}
 use Rattle.table.specs.Does.{Outcome, refused, gives, firstRefusal}
-use Rattle.hex.specs.Hex.{atStart}
+use Rattle.digits.specs.Hex.{atStart}
 use Rattle.stored.specs.Form.{form, size}
 
 -- what is seen of the call: its outcome, and every byte of the lent text

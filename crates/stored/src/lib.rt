@@ -5,7 +5,7 @@ ghost use mathlib.Core.Path.{_≡_};
 ghost use Prim.Native.Nat.{_+_, _*_, _≤_};
 ghost use lib.ListN.{length};
 ghost use Rattle.slots.specs.Layout.{ring, vector};
-ghost use Rattle.hex.specs.Put.{put};
+ghost use Rattle.digits.specs.Put.{put};
 ghost use Rattle.ring.specs.Seen as rings;
 ghost use Rattle.vector.specs.Seen as vectors;
 ghost use Rattle.stored.specs.Form.{firstLine, stateDigits, slotLine, slotLines};
@@ -17,9 +17,9 @@ fn put_state(text: &mut [u8], cap: usize, head: usize, len: usize)
     requires { ⌜ 17 ≤ length (now text) ⌝ }
     ensures { λ _. ⌜ now (text .exit) ≡ put (now (text .entry)) 4 (stateDigits cap head len) ⌝ }
 {
-    hex::put_hex(text, 4, 4, cap as u64);
-    hex::put_hex(text, 8, 4, head as u64);
-    hex::put_hex(text, 12, 4, len as u64);
+    digits::put_hex(text, 4, 4, cap as u64);
+    digits::put_hex(text, 8, 4, head as u64);
+    digits::put_hex(text, 12, 4, len as u64);
     text[16] = 10;
 }
 
@@ -28,8 +28,8 @@ fn put_first(text: &mut [u8], kind: u64, cap: usize, head: usize, len: usize)
     requires { ⌜ 17 ≤ length (now text) ⌝ }
     ensures { λ _. ⌜ now (text .exit) ≡ put (now (text .entry)) 0 (firstLine kind cap head len) ⌝ }
 {
-    hex::put_hex(text, 0, 2, kind);
-    hex::put_hex(text, 2, 2, 0);
+    digits::put_hex(text, 0, 2, kind);
+    digits::put_hex(text, 2, 2, 0);
     put_state(text, cap, head, len);
 }
 
@@ -38,7 +38,7 @@ fn put_line(text: &mut [u8], at: usize, x: u32)
     requires { ⌜ at + 9 ≤ length (now text) ⌝ }
     ensures { λ _. ⌜ now (text .exit) ≡ put (now (text .entry)) at (slotLine x) ⌝ }
 {
-    hex::put_hex(text, at, 8, x as u64);
+    digits::put_hex(text, at, 8, x as u64);
     text[at + 8] = 10;
 }
 

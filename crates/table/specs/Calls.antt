@@ -1,4 +1,4 @@
--- The calls of paper 01 that bear a number, and which of them each kind of container has. Assumes nothing.
+-- The calls of paper 01 that bear a number, and which of them each kind of container has.
 use Prim.Native.Nat.{ℕ}
 use mathlib.Core.Bool.{Bool, true, false, _&&_}
 use mathlib.Core.List.{List}

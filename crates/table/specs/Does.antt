@@ -1,4 +1,4 @@
--- What a call gives: the answer, and the state, slots and cursor afterwards. The promise of every call is `seen answer ≡ does ..`. Assumes nothing.
+-- What a call gives: the answer, and the state, slots and cursor afterwards. The promise of every call is `seen answer ≡ does ..`.
 use Prim.Native.Nat.{ℕ}
 use mathlib.Core.Bool.{Bool, cond}
 use mathlib.Core.List.{List, [], _∷_}

@@ -1,5 +1,5 @@
 -- What calls enter, hand out and drop, and the model lists that this is counted over: all from the calls' rules, the numbers and the values
--- answered. No state and no slot is looked at. Assumes nothing.
+-- answered. No state and no slot is looked at.
 use Prim.Native.Nat.{ℕ, zero, suc, _+_, _-_}
 use mathlib.Core.List.{List, [], _∷_, _++_}
 use lib.ListN.{length, drop, replicate, getD, set}

@@ -5,6 +5,7 @@ pub mod Table
 pub mod Numbers
 pub mod Does
 pub mod Parts
+pub mod Lent
 pub mod Tested
 pub mod Ledger
 pub mod Promise

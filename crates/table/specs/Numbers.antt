@@ -1,5 +1,5 @@
 -- The numbers a call may answer, number by number, as paper 01 lists them: `Applies .. m call` says that m's condition holds. The table has
--- the same conditions row by row; `proofs/Numbers` shows that a call answers the lowest number that applies here. Assumes nothing.
+-- the same conditions row by row; `proofs/Numbers` shows that a call answers the lowest number that applies here.
 use Prim.Native.Nat.{ℕ, _-_, _≤_, _<_}
 use mathlib.Core.Path.{_≡_}
 use mathlib.Core.Bool.{true}

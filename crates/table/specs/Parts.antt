@@ -1,5 +1,5 @@
 -- What a vector's part calls lend: which slots, and so which entries. A part bears no number; the question `range` answers for the same state
--- and range. Assumes nothing.
+-- and range.
 use Prim.Native.Nat.{ℕ, _-_}
 use mathlib.Core.Bool.{cond, not, _||_}
 use mathlib.Core.List.{List}

@@ -1,5 +1,5 @@
 -- A call as demand 3 takes it: the kinds that have it, the outcome that it promises, and its rule in the ledger; and when it is that its outcomes
--- keep the rule. Paper 01's calls are such promises, and a crate above may add others. Assumes nothing.
+-- keep the rule. Paper 01's calls are such promises, and a crate above may add others.
 use Prim.Native.Nat.{ℕ, _+_, _-_, _≤_}
 use mathlib.Core.Path.{_≡_}
 use mathlib.Core.Bool.{Bool, true, cond}

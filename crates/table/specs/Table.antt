@@ -1,6 +1,6 @@
 -- The table of paper 01. First the list afterwards, which the upstream clauses decide; then a row for each call with what paper 01 decides:
 -- why it is refused, its value, the head afterwards and the carrying. Here c is the capacity, h the head, n the length and l the list before
--- the call. Assumes nothing.
+-- the call.
 use Prim.Native.Nat.{ℕ, _+_, _-_}
 use mathlib.Core.Bool.{Bool, true, false, not, cond, _&&_}
 use mathlib.Core.List.{List, [], _∷_, _++_}

@@ -1,4 +1,4 @@
--- Several containers, each made once on its own slots, and what a sequence of calls on them comes to. Assumes nothing.
+-- Several containers, each made once on its own slots, and what a sequence of calls on them comes to.
 use Prim.Native.Nat.{ℕ, _+_, _<_}
 use mathlib.Core.Path.{_≡_}
 use mathlib.Core.Bool.{true, _&&_}

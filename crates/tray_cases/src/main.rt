@@ -1,6 +1,6 @@
 // The program `tray` once more, on cases that the listing of paper 01 has not: every operation of every kind, refusals, and damaged lines.
-use call::feeds::Fed;
-use call::feeds::State;
+use tray_lines::feeds::Fed;
+use tray_lines::feeds::State;
 use libc::STDIN_FILENO;
 use libc::STDOUT_FILENO;
 ghost use mathlib.Core.Path.{_≡_};
@@ -19,7 +19,7 @@ fn say(s: State, part: &[u8], out: &mut [u8]) -> Fed
     requires { ⌜ 23 * length (now part) ≤ length (now out) ⌝ }
     ensures { λ r. ⌜ (r .took ≡ length (now (part .entry))) × (r .count ≤ length (now (out .exit))) ⌝ }
 {
-    call::feeds::feed(s, part, out)
+    tray_lines::feeds::feed(s, part, out)
 }
 
 // One read, what it is answered, and one write.
@@ -66,10 +66,10 @@ fn run(first: State) -> Went {
 
 // The last line, where it has no LF and isn't empty. Where the output is closed nothing more is written.
 fn main() {
-    let went = run(call::feeds::fresh(call::acts::start()));
+    let went = run(tray_lines::feeds::fresh(tray_lines::acts::start()));
     if went.open {
         let s = went.state;
-        let end = call::feeds::ended(s);
+        let end = tray_lines::feeds::ended(s);
         let text = end.text;
         let count = end.count;
         io::write_all(STDOUT_FILENO, &text[0..count]);

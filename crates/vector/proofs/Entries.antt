@@ -1,5 +1,5 @@
 -- What a vector's writable part leaves: once it is given back with the numbers ys in it, and nothing else was stored, ys is the list and the slots
--- past the length are as they were. Assumes nothing.
+-- past the length are as they were.
 use mathlib.Core.Path.{_≡_, sym, ap, _∙_}
 use mathlib.Core.Bool.{false}
 use mathlib.Core.List.{List, _++_}
@@ -14,7 +14,7 @@ use Rattle.table.specs.Tray.{list, invalid}
 use Rattle.table.specs.Parts.{lendsAll}
 use Rattle.vector.specs.declared.Vector.{Vector}
 use Rattle.vector.specs.Seen.{tray}
-use Rattle.vector.proofs.Lending.{all-within}
+use Rattle.table.proofs.Laws.Lending.{all-within}
 
 -- The slots with ys where the part was: `putMid` is how a lent part comes back. No promise can name it, since a loan that lives on in a result
 -- shows no contents at exit.

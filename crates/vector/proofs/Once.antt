@@ -1,4 +1,4 @@
--- Each promise of this crate leaves one result: two that both meet it, with the slots as each leaves them, are the same. Assumes nothing.
+-- Each promise of this crate leaves one result: two that both meet it, with the slots as each leaves them, are the same.
 use Prim.Native.Nat.{ℕ}
 use mathlib.Core.Path.{_≡_, refl, sym, _∙_}
 use mathlib.Core.List.{List}
@@ -8,10 +8,10 @@ use denote.Triple.Clauses.{Ended, AtExit}
 use borrow.Fn.World.{ArgsD, ResD}
 use Rattle.table.specs.Parts.{Part}
 use Rattle.table.specs.Does.{Outcome}
-use Rattle.table.proofs.Unique.{one-answer}
+use Rattle.table.proofs.Theorems.Unique.{one-answer}
 use Rattle.vector.specs.declared.Answer.{Answer}
 use Rattle.vector.specs.Seen.{seen}
-use Rattle.vector.specs.Lent.{Lent}
+use Rattle.table.proofs.Laws.Lending.{one-part}
 use Rattle.vector.proofs.Vector as fns
 
 -- two results, and what is seen at exit with each, that both meet the promise of one function for the same arguments
@@ -24,13 +24,6 @@ Twice f κs learnt same =
 pub unique : (o : Outcome) (a a′ : Answer) (s s′ : List ℕ) → seen a s ≡ o → seen a′ s′ ≡ o → (a ≡ a′) × (s ≡ s′)
 unique =
     one-answer seen (λ o. record { number = o .number; value = o .value; moves = o .moves; vector = record { len = o .tray .len } }) (λ a s. refl) (λ a s. refl)
-
--- and that of a part `Lent p slots r`: it leaves one place, and one content
-pub one-part : (p : Part) (s r r′ : RefT (List ℕ)) → Lent p s r → Lent p s r′ → (ptr r ≡ ptr r′) × (now r ≡ now r′)
-one-part p s r r′ l l′ =
-    let block : ptr r .0 ≡ ptr r′ .0 = l .block ∙ sym (l′ .block) in
-    let offset : ptr r .1 ≡ ptr r′ .1 = l .offset ∙ sym (l′ .offset) in
-    ((λ i. (block i, offset i)), l .holds ∙ sym (l′ .holds))
 
 module _ (κs : Lfts 1) where
   pub new-once : Twice fns.new.ended κs (fns.new.Reads.Learnt κs) (λ r e r′ e′. r ≡ r′)
@@ -91,22 +84,22 @@ module _ (κs : Lfts 1) where
   clear-once a r r′ e e′ = unique _ r r′ _ _
 
   pub range-once : Twice fns.range.ended κs (fns.range.Reads.Learnt κs) (λ r e r′ e′. (ptr r ≡ ptr r′) × (now r ≡ now r′))
-  range-once a r r′ e e′ = one-part _ _ r r′
+  range-once a r r′ e e′ = one-part _ _ _ r r′
 
   pub as-slice-once : Twice fns.«as_slice».ended κs (fns.«as_slice».Reads.Learnt κs) (λ r e r′ e′. (ptr r ≡ ptr r′) × (now r ≡ now r′))
-  as-slice-once a r r′ e e′ = one-part _ _ r r′
+  as-slice-once a r r′ e e′ = one-part _ _ _ r r′
 
   pub as-ref-once : Twice fns.«as_ref».ended κs (fns.«as_ref».Reads.Learnt κs) (λ r e r′ e′. (ptr r ≡ ptr r′) × (now r ≡ now r′))
-  as-ref-once a r r′ e e′ = one-part _ _ r r′
+  as-ref-once a r r′ e e′ = one-part _ _ _ r r′
 
   pub deref-once : Twice fns.deref.ended κs (fns.deref.Reads.Learnt κs) (λ r e r′ e′. (ptr r ≡ ptr r′) × (now r ≡ now r′))
-  deref-once a r r′ e e′ = one-part _ _ r r′
+  deref-once a r r′ e e′ = one-part _ _ _ r r′
 
   pub as-mut-slice-once : Twice fns.«as_mut_slice».ended κs (fns.«as_mut_slice».Reads.Learnt κs) (λ r e r′ e′. (ptr r ≡ ptr r′) × (now r ≡ now r′))
-  as-mut-slice-once a r r′ e e′ = one-part _ _ r r′
+  as-mut-slice-once a r r′ e e′ = one-part _ _ _ r r′
 
   pub deref-mut-once : Twice fns.deref_mut.ended κs (fns.deref_mut.Reads.Learnt κs) (λ r e r′ e′. (ptr r ≡ ptr r′) × (now r ≡ now r′))
-  deref-mut-once a r r′ e e′ = one-part _ _ r r′
+  deref-mut-once a r r′ e e′ = one-part _ _ _ r r′
 
 module _ (κs : Lfts 2) where
   pub extend-from-slice-once : Twice fns.extend_from_slice.ended κs (fns.extend_from_slice.Reads.Learnt κs) (λ r e r′ e′. (r ≡ r′) × (now (e .1 .0) ≡ now (e′ .1 .0)))

@@ -1,4 +1,4 @@
--- Each call of this crate is an event of demand 3: what a caller learns of it is what `Ours` asks. Assumes nothing.
+-- Each call of this crate is an event of demand 3: what a caller learns of it is what `Ours` asks.
 use Prim.Native.Nat.{ℕ}
 use mathlib.Core.Path.{refl}
 use contract.Lifetimes.{Lfts}
@@ -9,7 +9,7 @@ use Rattle.slots.specs.Layout.{vector}
 use Rattle.table.specs.Calls.{look, len, isEmpty, read, reserve, tryReserve, tryReserveExact, range, new, withCapacity, fromElem}
 use Rattle.table.specs.Calls.{write, push, pop, insert, remove, swapRemove, truncate, resize, clear, extend}
 use Rattle.table.specs.World.{World, make, on, Ours}
-use Rattle.table.proofs.Named.{Is, ours-make, ours-on}
+use Rattle.table.proofs.Laws.Named.{Is, ours-make, ours-on}
 use Rattle.vector.specs.Seen.{tray, seen}
 use Rattle.vector.proofs.Vector as fns
 

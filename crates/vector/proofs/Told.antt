@@ -1,11 +1,11 @@
--- An answer that refuses is a refused outcome, and one that is done gives its numbers: the rules of this crate's own types. Assumes nothing.
+-- An answer that refuses is a refused outcome, and one that is done gives its numbers: the rules of this crate's own types.
 use mathlib.Core.Path.{_≡_, ap}
 use mathlib.Core.List.{List}
 use Prim.Native.Nat.{ℕ}
 use Rattle.table.specs.Tray.{nowhere}
 use Rattle.table.specs.Does.{gives, refused, bare}
-use Rattle.table.proofs.Stops.{stops}
-use Rattle.table.proofs.Refusals
+use Rattle.table.proofs.Laws.Stops.{stops}
+use Rattle.table.proofs.Laws.Refusals
 use Rattle.vector.specs.declared.Vector.{Vector}
 use Rattle.vector.specs.declared.Answer.{Answer}
 use Rattle.vector.specs.Seen.{tray, seen, refusing, giving}

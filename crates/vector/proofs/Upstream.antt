@@ -1,5 +1,5 @@
 -- Upstream's clauses of `vec.rs` on one vector, each from the generated contract of its function, `Learnt`: what a caller knows of a call. One line
--- each, by the table's law of the call; the parts are in `UpstreamParts`. Assumes nothing.
+-- each, by the table's law of the call; the parts are in `UpstreamParts`.
 use Prim.Native.Nat.{ℕ, _+_, _-_, _≤_, _<_}
 use mathlib.Core.Path.{_≡_}
 use mathlib.Core.Bool.{false}
@@ -13,8 +13,8 @@ use Rattle.slots.specs.Lists.{update, insertAt, removeAt}
 use Rattle.slots.specs.Layout.{vector}
 use Rattle.table.specs.Tray.{list, invalid}
 use Rattle.table.specs.Numbers.{Astray}
-use Rattle.table.proofs.Upstream as law
-use Rattle.table.proofs.Upstream.{Says, IfInside, IfSome, IfFree, IfRoom, IfHolds, IfInserts}
+use Rattle.table.proofs.Theorems.Upstream as law
+use Rattle.table.proofs.Theorems.Upstream.{Says, IfInside, IfSome, IfFree, IfRoom, IfHolds, IfInserts}
 use Rattle.vector.specs.declared.Vector.{Vector}
 use Rattle.vector.specs.declared.Answer.{Answer}
 use Rattle.vector.specs.Seen.{tray}

@@ -1,5 +1,5 @@
 -- Upstream's clauses of a vector's parts, each from the generated contract of its function: what the part holds is `vec@`, or the range of it that is
--- asked, and a writable part given back leaves what it holds as the list. Assumes nothing.
+-- asked, and a writable part given back leaves what it holds as the list.
 use Prim.Native.Nat.{ℕ, _-_, _≤_}
 use mathlib.Core.Path.{_≡_, ap, _∙_}
 use mathlib.Core.List.{List, []}
@@ -11,8 +11,8 @@ use denote.Triple.Clauses.{AtExit}
 use Rattle.slots.specs.Layout.{vector}
 use Rattle.table.specs.Tray.{list}
 use Rattle.table.specs.Numbers.{Astray}
-use Rattle.table.proofs.Done.{many}
-use Rattle.table.proofs.Parts.{part-all, part-holds, part-none, lends-astray}
+use Rattle.table.proofs.Laws.Done.{many}
+use Rattle.table.proofs.Theorems.Parts.{part-all, part-holds, part-none, lends-astray}
 use Rattle.vector.specs.declared.Vector.{Vector}
 use Rattle.vector.specs.Seen.{tray}
 use Rattle.vector.proofs.Entries.{back, back-list}

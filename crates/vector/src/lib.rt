@@ -82,7 +82,7 @@ impl Vector {
         if cap <= len {
             return refused(6, self);
         }
-        slots::run_up(slots, i, len);
+        runs::run_up(slots, i, len);
         slots[i] = x;
         done(0, len - i, len + 1)
     }
@@ -100,7 +100,7 @@ impl Vector {
         }
         let last = len - 1;
         let old = slots[i];
-        slots::run_down(slots, i, last);
+        runs::run_down(slots, i, last);
         slots[last] = 0;
         done(old, last - i, last)
     }
@@ -139,7 +139,7 @@ impl Vector {
         if len <= k {
             return done(0, 0, len);
         }
-        slots::run_fill(slots, k, len, 0);
+        runs::run_fill(slots, k, len, 0);
         done(0, 0, k)
     }
 
@@ -155,10 +155,10 @@ impl Vector {
             return refused(6, self);
         }
         if k < len {
-            slots::run_fill(slots, k, len, 0);
+            runs::run_fill(slots, k, len, 0);
             return done(0, 0, k);
         }
-        slots::run_fill(slots, len, k, x);
+        runs::run_fill(slots, len, k, x);
         done(0, 0, k)
     }
 
@@ -170,7 +170,7 @@ impl Vector {
         if table::invalid_vector(cap, len) {
             return refused(1, self);
         }
-        slots::run_fill(slots, 0, len, 0);
+        runs::run_fill(slots, 0, len, 0);
         done(0, 0, 0)
     }
 
@@ -187,7 +187,7 @@ impl Vector {
         if cap - len < more {
             return refused(6, self);
         }
-        slots::copy::run_copy(slots, len, s, more);
+        runs::copy::run_copy(slots, len, s, more);
         done(0, 0, len + more)
     }
 }

@@ -43,7 +43,7 @@ impl Vector {
         if cap < k {
             return refused(6, Vector { len: 0 });
         }
-        slots::run_fill(slots, 0, k, x);
+        runs::run_fill(slots, 0, k, x);
         done(0, 0, k)
     }
 
@@ -55,7 +55,7 @@ impl Vector {
         if table::invalid_vector(cap, len) {
             return refused(1, self);
         }
-        done(len as u32, 0, len)
+        done(runs::word(len), 0, len)
     }
 
     pub fn is_empty(self, slots: &[u32]) -> Answer

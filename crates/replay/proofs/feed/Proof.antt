@@ -1,9 +1,9 @@
--- `feed` ends, and the room that was lent stays: the bytes are counted up. Assumes nothing.
+-- `feed` ends, and the room that was lent stays: the bytes are counted up.
 use Prim.Native.Nat.{_-_}
 use mathlib.Core.Path.{_≡_}
 use borrow.Author.Needs.{needs}
 use lib.ListN.{length}
-use Rattle.trial.specs.Tells.{Enough}
+use Rattle.replay_lines.specs.Tells.{Enough}
 use Rattle.replay.proofs.feed.Statement.{statement}
 use Rattle.replay.proofs.feed.Tie as tie
 

@@ -1,8 +1,8 @@
--- `run` ends: the turns that are left fall with each, and the room that was lent stays. Assumes nothing.
+-- `run` ends: the turns that are left fall with each, and the room that was lent stays.
 use mathlib.Core.Path.{_≡_}
 use borrow.Author.Needs.{needs}
 use lib.ListN.{length}
-use Rattle.trial.specs.Tells.{Enough}
+use Rattle.replay_lines.specs.Tells.{Enough}
 use Rattle.replay.proofs.run.Statement.{statement}
 use Rattle.replay.proofs.run.Tie as tie
 

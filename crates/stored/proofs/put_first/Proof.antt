@@ -1,4 +1,4 @@
--- `put_first` meets its promise: two numbers and the state, each put where the one before it ends. Assumes nothing.
+-- `put_first` meets its promise: two numbers and the state, each put where the one before it ends.
 use borrow.Author.Needs.{needs}
 use Rattle.stored.proofs.Lines.{first-put}
 use Rattle.stored.proofs.put_first.Statement.{statement}

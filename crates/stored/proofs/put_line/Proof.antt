@@ -1,4 +1,4 @@
--- `put_line` meets its promise: eight digits, and the line's end after them. Assumes nothing.
+-- `put_line` meets its promise: eight digits, and the line's end after them.
 use borrow.Author.Needs.{needs}
 use Rattle.stored.proofs.Lines.{line-put}
 use Rattle.stored.proofs.put_line.Statement.{statement}

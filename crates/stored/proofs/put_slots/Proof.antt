@@ -1,9 +1,9 @@
--- `put_slots` meets its promise: what is put, with the lines that are left put after it, is always the whole. Assumes nothing.
+-- `put_slots` meets its promise: what is put, with the lines that are left put after it, is always the whole.
 use Prim.Native.Nat.{_+_, _*_, _-_, _≤_}
 use mathlib.Core.Path.{_≡_}
 use borrow.Author.Needs.{needs}
 use lib.ListN.{length, drop}
-use Rattle.hex.specs.Put.{put}
+use Rattle.digits.specs.Put.{put}
 use Rattle.stored.specs.Form.{slotLines}
 use Rattle.stored.proofs.Lines.{slots-turn, slots-end}
 use Rattle.stored.proofs.put_slots.Statement.{statement}

@@ -1,4 +1,4 @@
--- `put_state` meets its promise: three numbers and an end, each put where the one before it ends. Assumes nothing.
+-- `put_state` meets its promise: three numbers and an end, each put where the one before it ends.
 use native.Mathlib.Omega.{arith}
 use borrow.Author.Needs.{needs}
 use lib.ListN.{length-set}

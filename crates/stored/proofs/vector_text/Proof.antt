@@ -1,6 +1,6 @@
--- `vector_text` meets its promise: the tests in the order of paper 01, then the first line and the slots' lines. Assumes nothing.
+-- `vector_text` meets its promise: the tests in the order of paper 01, then the first line and the slots' lines.
 use borrow.Author.Needs.{needs}
-use Rattle.table.proofs.Valid.{state}
+use Rattle.table.proofs.Laws.Valid.{state}
 use Rattle.stored.specs.Written.{writes}
 use Rattle.stored.proofs.Writes.{vector-write-done, refusals, shown}
 use Rattle.stored.proofs.vector_text.Statement.{statement}

@@ -1,8 +1,8 @@
--- `table::ring_full` meets its promise. Assumes nothing.
+-- `table::ring_full` meets its promise.
 use native.Mathlib.Omega.{arith}
 use Rattle.slots.specs.Layout.{ring}
-use Rattle.table.proofs.Valid.{ring-facts}
-use Rattle.table.proofs.Stops.{ring-roomy, stopped, stopped-below}
+use Rattle.table.proofs.Laws.Valid.{ring-facts}
+use Rattle.table.proofs.Laws.Stops.{ring-roomy, stopped, stopped-below}
 use Rattle.table.proofs.ring_full.Statement.{statement}
 use Rattle.table.proofs.ring_full.Tie as tie
 

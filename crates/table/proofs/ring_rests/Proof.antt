@@ -1,8 +1,8 @@
--- `table::ring_rests` meets its promise. Assumes nothing.
+-- `table::ring_rests` meets its promise.
 use native.Mathlib.Omega.{arith}
 use Rattle.slots.specs.Layout.{ring}
-use Rattle.table.proofs.Valid.{ring-facts}
-use Rattle.table.proofs.Stops.{ring-rests, stopped, stopped-step}
+use Rattle.table.proofs.Laws.Valid.{ring-facts}
+use Rattle.table.proofs.Laws.Stops.{ring-rests, stopped, stopped-step}
 use Rattle.table.proofs.ring_rests.Statement.{statement}
 use Rattle.table.proofs.ring_rests.Tie as tie
 

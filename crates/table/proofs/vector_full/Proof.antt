@@ -1,8 +1,8 @@
--- `table::vector_full` meets its promise. Assumes nothing.
+-- `table::vector_full` meets its promise.
 use native.Mathlib.Omega.{arith}
 use Rattle.slots.specs.Layout.{vector}
-use Rattle.table.proofs.Valid.{vector-facts}
-use Rattle.table.proofs.Stops.{vector-roomy, stopped, stopped-below}
+use Rattle.table.proofs.Laws.Valid.{vector-facts}
+use Rattle.table.proofs.Laws.Stops.{vector-roomy, stopped, stopped-below}
 use Rattle.table.proofs.vector_full.Statement.{statement}
 use Rattle.table.proofs.vector_full.Tie as tie
 

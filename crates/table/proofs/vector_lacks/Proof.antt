@@ -1,8 +1,8 @@
--- `table::vector_lacks` meets its promise. Assumes nothing.
+-- `table::vector_lacks` meets its promise.
 use native.Mathlib.Omega.{arith}
 use Rattle.slots.specs.Layout.{vector}
-use Rattle.table.proofs.Valid.{vector-facts}
-use Rattle.table.proofs.Stops.{vector-held, stopped, stopped-below}
+use Rattle.table.proofs.Laws.Valid.{vector-facts}
+use Rattle.table.proofs.Laws.Stops.{vector-held, stopped, stopped-below}
 use Rattle.table.proofs.vector_lacks.Statement.{statement}
 use Rattle.table.proofs.vector_lacks.Tie as tie
 

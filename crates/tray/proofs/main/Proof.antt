@@ -1,6 +1,6 @@
--- `main` asks for no more of the last answer than there is. Assumes nothing.
+-- `main` asks for no more of the last answer than there is.
 use borrow.Author.Needs.{needs}
-use Rattle.call.proofs.Fed.{end-counted}
+use Rattle.tray_lines.proofs.Fed.{end-counted}
 use Rattle.tray.proofs.main.Statement.{statement}
 use Rattle.tray.proofs.main.Tie as tie
 

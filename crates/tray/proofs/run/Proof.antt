@@ -1,4 +1,4 @@
--- `run` ends: the turns that are left fall with each. Assumes nothing.
+-- `run` ends: the turns that are left fall with each.
 use borrow.Author.Needs.{needs}
 use Rattle.tray.proofs.run.Statement.{statement}
 use Rattle.tray.proofs.run.Tie as tie

@@ -1,6 +1,6 @@
--- `say` meets its promise: with room for 23 bytes for each that is given, `feed` takes them all. Assumes nothing.
+-- `say` meets its promise: with room for 23 bytes for each that is given, `feed` takes them all.
 use borrow.Author.Needs.{needs}
-use Rattle.call.proofs.Fed.{took-all, counted}
+use Rattle.tray_lines.proofs.Fed.{took-all, counted}
 use Rattle.tray.proofs.say.Statement.{statement}
 use Rattle.tray.proofs.say.Tie as tie
 

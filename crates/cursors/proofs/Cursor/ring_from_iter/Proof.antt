@@ -1,8 +1,8 @@
--- `Cursor::ring_from_iter` meets its promise: nothing remains, or the run that remains is copied to T, a law for each. Assumes nothing.
+-- `Cursor::ring_from_iter` meets its promise: nothing remains, or the run that remains is copied to T, a law for each.
 use borrow.Author.Needs.{needs}
 use Rattle.table.specs.Does.{does2}
-use Rattle.table.proofs.Valid.{state}
-use Rattle.table.proofs.Done2.{from-iter-none-done, from-iter-done}
+use Rattle.table.proofs.Laws.Valid.{state}
+use Rattle.table.proofs.Laws.Done2.{from-iter-none-done, from-iter-done}
 use Rattle.cursors.proofs.Told.{refusals, shown}
 use Rattle.cursors.proofs.Cursor.ring_from_iter.Statement.{statement}
 use Rattle.cursors.proofs.Cursor.ring_from_iter.Tie as tie

@@ -1,8 +1,8 @@
--- `Cursor::ring_step_back` meets its promise: the slot of position back − 1 holds the entry, and back moves there. Assumes nothing.
+-- `Cursor::ring_step_back` meets its promise: the slot of position back − 1 holds the entry, and back moves there.
 use borrow.Author.Needs.{needs}
 use Rattle.table.specs.Does.{does}
-use Rattle.table.proofs.Valid.{state}
-use Rattle.table.proofs.Walks.{step-back-done}
+use Rattle.table.proofs.Laws.Valid.{state}
+use Rattle.table.proofs.Laws.Walks.{step-back-done}
 use Rattle.cursors.proofs.Told.{refusals, shown}
 use Rattle.cursors.proofs.Cursor.ring_step_back.Statement.{statement}
 use Rattle.cursors.proofs.Cursor.ring_step_back.Tie as tie

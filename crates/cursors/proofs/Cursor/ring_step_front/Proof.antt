@@ -1,8 +1,8 @@
--- `Cursor::ring_step_front` meets its promise: the slot of position front holds the entry, and front moves one on. Assumes nothing.
+-- `Cursor::ring_step_front` meets its promise: the slot of position front holds the entry, and front moves one on.
 use borrow.Author.Needs.{needs}
 use Rattle.table.specs.Does.{does}
-use Rattle.table.proofs.Valid.{state}
-use Rattle.table.proofs.Walks.{step-front-done}
+use Rattle.table.proofs.Laws.Valid.{state}
+use Rattle.table.proofs.Laws.Walks.{step-front-done}
 use Rattle.cursors.proofs.Told.{refusals, shown}
 use Rattle.cursors.proofs.Cursor.ring_step_front.Statement.{statement}
 use Rattle.cursors.proofs.Cursor.ring_step_front.Tie as tie

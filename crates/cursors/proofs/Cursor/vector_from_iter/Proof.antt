@@ -1,8 +1,8 @@
--- `Cursor::vector_from_iter` meets its promise: the run that remains is copied to T. Assumes nothing.
+-- `Cursor::vector_from_iter` meets its promise: the run that remains is copied to T.
 use borrow.Author.Needs.{needs}
 use Rattle.table.specs.Does.{does2}
-use Rattle.table.proofs.Valid.{state}
-use Rattle.table.proofs.Done2.{vector-from-iter-done}
+use Rattle.table.proofs.Laws.Valid.{state}
+use Rattle.table.proofs.Laws.Done2.{vector-from-iter-done}
 use Rattle.cursors.proofs.Told.{refusals, shown}
 use Rattle.cursors.proofs.Cursor.vector_from_iter.Statement.{statement}
 use Rattle.cursors.proofs.Cursor.vector_from_iter.Tie as tie

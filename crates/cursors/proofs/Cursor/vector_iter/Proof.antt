@@ -1,7 +1,7 @@
--- `Cursor::vector_iter` meets its promise: nothing is stored, and the cursor spans the list. Assumes nothing.
+-- `Cursor::vector_iter` meets its promise: nothing is stored, and the cursor spans the list.
 use borrow.Author.Needs.{needs}
 use Rattle.table.specs.Does.{does}
-use Rattle.table.proofs.Looks.{iter-done}
+use Rattle.table.proofs.Laws.Looks.{iter-done}
 use Rattle.cursors.proofs.Told.{refusals, shown}
 use Rattle.cursors.proofs.Cursor.vector_iter.Statement.{statement}
 use Rattle.cursors.proofs.Cursor.vector_iter.Tie as tie

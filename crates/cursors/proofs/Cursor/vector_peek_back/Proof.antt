@@ -1,8 +1,8 @@
--- `Cursor::vector_peek_back` meets its promise: slot back − 1 − k holds the entry. Assumes nothing.
+-- `Cursor::vector_peek_back` meets its promise: slot back − 1 − k holds the entry.
 use borrow.Author.Needs.{needs}
 use Rattle.table.specs.Does.{does}
-use Rattle.table.proofs.Valid.{state}
-use Rattle.table.proofs.Walks.{vector-peek-back-done}
+use Rattle.table.proofs.Laws.Valid.{state}
+use Rattle.table.proofs.Laws.Walks.{vector-peek-back-done}
 use Rattle.cursors.proofs.Told.{refusals, shown}
 use Rattle.cursors.proofs.Cursor.vector_peek_back.Statement.{statement}
 use Rattle.cursors.proofs.Cursor.vector_peek_back.Tie as tie

@@ -1,8 +1,8 @@
--- `Cursor::vector_peek_front` meets its promise: slot front + k holds the entry. Assumes nothing.
+-- `Cursor::vector_peek_front` meets its promise: slot front + k holds the entry.
 use borrow.Author.Needs.{needs}
 use Rattle.table.specs.Does.{does}
-use Rattle.table.proofs.Valid.{state}
-use Rattle.table.proofs.Walks.{vector-peek-front-done}
+use Rattle.table.proofs.Laws.Valid.{state}
+use Rattle.table.proofs.Laws.Walks.{vector-peek-front-done}
 use Rattle.cursors.proofs.Told.{refusals, shown}
 use Rattle.cursors.proofs.Cursor.vector_peek_front.Statement.{statement}
 use Rattle.cursors.proofs.Cursor.vector_peek_front.Tie as tie

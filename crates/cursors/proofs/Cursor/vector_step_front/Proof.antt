@@ -1,8 +1,8 @@
--- `Cursor::vector_step_front` meets its promise: slot front holds the entry, and front moves one on. Assumes nothing.
+-- `Cursor::vector_step_front` meets its promise: slot front holds the entry, and front moves one on.
 use borrow.Author.Needs.{needs}
 use Rattle.table.specs.Does.{does}
-use Rattle.table.proofs.Valid.{state}
-use Rattle.table.proofs.Walks.{vector-step-front-done}
+use Rattle.table.proofs.Laws.Valid.{state}
+use Rattle.table.proofs.Laws.Walks.{vector-step-front-done}
 use Rattle.cursors.proofs.Told.{refusals, shown}
 use Rattle.cursors.proofs.Cursor.vector_step_front.Statement.{statement}
 use Rattle.cursors.proofs.Cursor.vector_step_front.Tie as tie

@@ -1,8 +1,8 @@
--- `rings::append` meets its promise: T is empty, or its run is copied behind the entries and filled with 0, a law for each. Assumes nothing.
+-- `rings::append` meets its promise: T is empty, or its run is copied behind the entries and filled with 0, a law for each.
 use borrow.Author.Needs.{needs}
 use Rattle.table.specs.Does.{does2}
-use Rattle.table.proofs.Valid.{state}
-use Rattle.table.proofs.Done2.{append-none-done, append-done}
+use Rattle.table.proofs.Laws.Valid.{state}
+use Rattle.table.proofs.Laws.Done2.{append-none-done, append-done}
 use Rattle.pairs.proofs.ToldRings.{refusals, shown}
 use Rattle.pairs.proofs.rings.append.Statement.{statement}
 use Rattle.pairs.proofs.rings.append.Tie as tie

@@ -1,8 +1,8 @@
--- `rings::clone` meets its promise: there is nothing to copy, or T gets a copy of the run, a law for each. Assumes nothing.
+-- `rings::clone` meets its promise: there is nothing to copy, or T gets a copy of the run, a law for each.
 use borrow.Author.Needs.{needs}
 use Rattle.table.specs.Does.{does2}
-use Rattle.table.proofs.Valid.{state}
-use Rattle.table.proofs.Done2.{clone-none-done, clone-done}
+use Rattle.table.proofs.Laws.Valid.{state}
+use Rattle.table.proofs.Laws.Done2.{clone-none-done, clone-done}
 use Rattle.pairs.proofs.ToldRings.{refusals, shown}
 use Rattle.pairs.proofs.rings.clone.Statement.{statement}
 use Rattle.pairs.proofs.rings.clone.Tie as tie

@@ -1,8 +1,8 @@
--- `rings::same` meets its promise: capacity, head or length differ, or the comparison of the runs decides, a law for each. Assumes nothing.
+-- `rings::same` meets its promise: capacity, head or length differ, or the comparison of the runs decides, a law for each.
 use borrow.Author.Needs.{needs}
 use Rattle.table.specs.Does.{does2}
-use Rattle.table.proofs.Valid.{state}
-use Rattle.table.proofs.Equal.{other-done, same-done, unlike-done}
+use Rattle.table.proofs.Laws.Valid.{state}
+use Rattle.table.proofs.Laws.Equal.{other-done, same-done, unlike-done}
 use Rattle.pairs.proofs.ToldRings.{refusals, shown}
 use Rattle.pairs.proofs.rings.same.Statement.{statement}
 use Rattle.pairs.proofs.rings.same.Tie as tie

@@ -1,8 +1,8 @@
--- `rings::split_off` meets its promise: nothing goes over, or the run from at on is copied to T and filled with 0, a law for each. Assumes nothing.
+-- `rings::split_off` meets its promise: nothing goes over, or the run from at on is copied to T and filled with 0, a law for each.
 use borrow.Author.Needs.{needs}
 use Rattle.table.specs.Does.{does2}
-use Rattle.table.proofs.Valid.{state}
-use Rattle.table.proofs.Done2.{split-none-done, split-done}
+use Rattle.table.proofs.Laws.Valid.{state}
+use Rattle.table.proofs.Laws.Done2.{split-none-done, split-done}
 use Rattle.pairs.proofs.ToldRings.{refusals, shown}
 use Rattle.pairs.proofs.rings.split_off.Statement.{statement}
 use Rattle.pairs.proofs.rings.split_off.Tie as tie

@@ -1,8 +1,8 @@
--- `vectors::append` meets its promise: T's run is copied behind the entries and filled with 0. Assumes nothing.
+-- `vectors::append` meets its promise: T's run is copied behind the entries and filled with 0.
 use borrow.Author.Needs.{needs}
 use Rattle.table.specs.Does.{does2}
-use Rattle.table.proofs.Valid.{state}
-use Rattle.table.proofs.Done2.{vector-append-done}
+use Rattle.table.proofs.Laws.Valid.{state}
+use Rattle.table.proofs.Laws.Done2.{vector-append-done}
 use Rattle.pairs.proofs.ToldVectors.{refusals, shown}
 use Rattle.pairs.proofs.vectors.append.Statement.{statement}
 use Rattle.pairs.proofs.vectors.append.Tie as tie

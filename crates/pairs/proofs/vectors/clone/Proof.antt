@@ -1,8 +1,8 @@
--- `vectors::clone` meets its promise: T gets a copy of the run. Assumes nothing.
+-- `vectors::clone` meets its promise: T gets a copy of the run.
 use borrow.Author.Needs.{needs}
 use Rattle.table.specs.Does.{does2}
-use Rattle.table.proofs.Valid.{state}
-use Rattle.table.proofs.Done2.{vector-clone-done}
+use Rattle.table.proofs.Laws.Valid.{state}
+use Rattle.table.proofs.Laws.Done2.{vector-clone-done}
 use Rattle.pairs.proofs.ToldVectors.{refusals, shown}
 use Rattle.pairs.proofs.vectors.clone.Statement.{statement}
 use Rattle.pairs.proofs.vectors.clone.Tie as tie

@@ -1,9 +1,9 @@
--- `vectors::equal` meets its promise: the comparison of the two parts decides, a law for each answer. Assumes nothing.
+-- `vectors::equal` meets its promise: the comparison of the two parts decides, a law for each answer.
 use borrow.Author.Needs.{needs}
 use lib.ListN.{length-take}
 use Rattle.table.specs.Does.{does2}
-use Rattle.table.proofs.Valid.{state}
-use Rattle.table.proofs.Equal.{equal-done, unequal-done}
+use Rattle.table.proofs.Laws.Valid.{state}
+use Rattle.table.proofs.Laws.Equal.{equal-done, unequal-done}
 use Rattle.pairs.proofs.ToldVectors.{refusals, shown}
 use Rattle.pairs.proofs.vectors.equal.Statement.{statement}
 use Rattle.pairs.proofs.vectors.equal.Tie as tie

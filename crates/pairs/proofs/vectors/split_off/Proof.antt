@@ -1,8 +1,8 @@
--- `vectors::split_off` meets its promise: the run from at on is copied to T and filled with 0. Assumes nothing.
+-- `vectors::split_off` meets its promise: the run from at on is copied to T and filled with 0.
 use borrow.Author.Needs.{needs}
 use Rattle.table.specs.Does.{does2}
-use Rattle.table.proofs.Valid.{state}
-use Rattle.table.proofs.Done2.{vector-split-done}
+use Rattle.table.proofs.Laws.Valid.{state}
+use Rattle.table.proofs.Laws.Done2.{vector-split-done}
 use Rattle.pairs.proofs.ToldVectors.{refusals, shown}
 use Rattle.pairs.proofs.vectors.split_off.Statement.{statement}
 use Rattle.pairs.proofs.vectors.split_off.Tie as tie

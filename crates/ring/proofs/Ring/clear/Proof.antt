@@ -1,8 +1,8 @@
--- `Ring::clear` meets its promise: there is nothing to clear, or the run of all entries is filled with 0, a law for each. Assumes nothing.
+-- `Ring::clear` meets its promise: there is nothing to clear, or the run of all entries is filled with 0, a law for each.
 use borrow.Author.Needs.{needs}
 use Rattle.table.specs.Does.{does}
-use Rattle.table.proofs.Valid.{state}
-use Rattle.table.proofs.Cut.{clear-none-done, clear-done}
+use Rattle.table.proofs.Laws.Valid.{state}
+use Rattle.table.proofs.Laws.Cut.{clear-none-done, clear-done}
 use Rattle.ring.proofs.Told.{refusals, shown}
 use Rattle.ring.proofs.Ring.clear.Statement.{statement}
 use Rattle.ring.proofs.Ring.clear.Tie as tie

@@ -1,8 +1,8 @@
--- `Ring::insert` meets its promise: the entries before i shift or those from i on, a law for each, and x goes between. Assumes nothing.
+-- `Ring::insert` meets its promise: the entries before i shift or those from i on, a law for each, and x goes between.
 use borrow.Author.Needs.{needs}
 use Rattle.table.specs.Does.{does}
-use Rattle.table.proofs.Valid.{state}
-use Rattle.table.proofs.Shifted.{insert-front-done, insert-back-done}
+use Rattle.table.proofs.Laws.Valid.{state}
+use Rattle.table.proofs.Laws.Shifted.{insert-front-done, insert-back-done}
 use Rattle.ring.proofs.Told.{refusals, shown}
 use Rattle.ring.proofs.Ring.insert.Statement.{statement}
 use Rattle.ring.proofs.Ring.insert.Tie as tie

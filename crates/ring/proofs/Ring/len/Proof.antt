@@ -1,8 +1,8 @@
--- `Ring::len` meets its promise: nothing is stored, and the length is the list's. Assumes nothing.
+-- `Ring::len` meets its promise: nothing is stored, and the length is the list's.
 use borrow.Author.Needs.{needs}
 use Rattle.table.specs.Does.{does}
-use Rattle.table.proofs.Valid.{state}
-use Rattle.table.proofs.Looks.{len-done}
+use Rattle.table.proofs.Laws.Valid.{state}
+use Rattle.table.proofs.Laws.Looks.{len-done}
 use Rattle.ring.proofs.Told.{refusals, shown}
 use Rattle.ring.proofs.Ring.len.Statement.{statement}
 use Rattle.ring.proofs.Ring.len.Tie as tie
@@ -15,6 +15,6 @@ len-spec =
     (λ c κs. search needs)
     (λ c κs. search needs)
     (λ c. search refusals)
-    (λ c. omega state)
+    (λ c κs. omega state)
     (λ c κs. search needs)
     (λ c. search (len-done, shown)))

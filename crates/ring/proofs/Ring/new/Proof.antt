@@ -1,7 +1,7 @@
--- `Ring::new` meets its promise: no slot is touched, and the list is empty. Assumes nothing.
+-- `Ring::new` meets its promise: no slot is touched, and the list is empty.
 use borrow.Author.Needs.{needs}
 use Rattle.table.specs.Does.{made}
-use Rattle.table.proofs.Made.{new-done}
+use Rattle.table.proofs.Laws.Made.{new-done}
 use Rattle.ring.proofs.Told.{refusals, shown}
 use Rattle.ring.proofs.Ring.new.Statement.{statement}
 use Rattle.ring.proofs.Ring.new.Tie as tie

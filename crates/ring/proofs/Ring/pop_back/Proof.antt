@@ -1,8 +1,8 @@
--- `Ring::pop_back` meets its promise: 0 is stored in the slot of the last entry. Assumes nothing.
+-- `Ring::pop_back` meets its promise: 0 is stored in the slot of the last entry.
 use borrow.Author.Needs.{needs}
 use Rattle.table.specs.Does.{does}
-use Rattle.table.proofs.Valid.{state}
-use Rattle.table.proofs.Stores.{pop-done}
+use Rattle.table.proofs.Laws.Valid.{state}
+use Rattle.table.proofs.Laws.Stores.{pop-done}
 use Rattle.ring.proofs.Told.{refusals, shown}
 use Rattle.ring.proofs.Ring.pop_back.Statement.{statement}
 use Rattle.ring.proofs.Ring.pop_back.Tie as tie

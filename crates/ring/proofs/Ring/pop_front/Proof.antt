@@ -1,8 +1,8 @@
--- `Ring::pop_front` meets its promise: 0 is stored in the head's slot, and the next slot becomes the head. Assumes nothing.
+-- `Ring::pop_front` meets its promise: 0 is stored in the head's slot, and the next slot becomes the head.
 use borrow.Author.Needs.{needs}
 use Rattle.table.specs.Does.{does}
-use Rattle.table.proofs.Valid.{state}
-use Rattle.table.proofs.Stores.{pop-front-done}
+use Rattle.table.proofs.Laws.Valid.{state}
+use Rattle.table.proofs.Laws.Stores.{pop-front-done}
 use Rattle.ring.proofs.Told.{refusals, shown}
 use Rattle.ring.proofs.Ring.pop_front.Statement.{statement}
 use Rattle.ring.proofs.Ring.pop_front.Tie as tie

@@ -1,8 +1,8 @@
--- `Ring::push_back` meets its promise: one store in the slot of position n, which was free. Assumes nothing.
+-- `Ring::push_back` meets its promise: one store in the slot of position n, which was free.
 use borrow.Author.Needs.{needs}
 use Rattle.table.specs.Does.{does}
-use Rattle.table.proofs.Valid.{state}
-use Rattle.table.proofs.Stores.{push-done}
+use Rattle.table.proofs.Laws.Valid.{state}
+use Rattle.table.proofs.Laws.Stores.{push-done}
 use Rattle.ring.proofs.Told.{refusals, shown}
 use Rattle.ring.proofs.Ring.push_back.Statement.{statement}
 use Rattle.ring.proofs.Ring.push_back.Tie as tie

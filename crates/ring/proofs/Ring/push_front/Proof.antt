@@ -1,8 +1,8 @@
--- `Ring::push_front` meets its promise: one store in the slot before the head, which becomes the head. Assumes nothing.
+-- `Ring::push_front` meets its promise: one store in the slot before the head, which becomes the head.
 use borrow.Author.Needs.{needs}
 use Rattle.table.specs.Does.{does}
-use Rattle.table.proofs.Valid.{state}
-use Rattle.table.proofs.Stores.{push-front-done}
+use Rattle.table.proofs.Laws.Valid.{state}
+use Rattle.table.proofs.Laws.Stores.{push-front-done}
 use Rattle.ring.proofs.Told.{refusals, shown}
 use Rattle.ring.proofs.Ring.push_front.Statement.{statement}
 use Rattle.ring.proofs.Ring.push_front.Tie as tie

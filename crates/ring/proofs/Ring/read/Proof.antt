@@ -1,8 +1,8 @@
--- `Ring::read` meets its promise: the slot of position i holds its entry. Assumes nothing.
+-- `Ring::read` meets its promise: the slot of position i holds its entry.
 use borrow.Author.Needs.{needs}
 use Rattle.table.specs.Does.{does}
-use Rattle.table.proofs.Valid.{state}
-use Rattle.table.proofs.Looks.{read-done}
+use Rattle.table.proofs.Laws.Valid.{state}
+use Rattle.table.proofs.Laws.Looks.{read-done}
 use Rattle.ring.proofs.Told.{refusals, shown}
 use Rattle.ring.proofs.Ring.read.Statement.{statement}
 use Rattle.ring.proofs.Ring.read.Tie as tie

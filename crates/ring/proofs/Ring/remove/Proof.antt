@@ -1,8 +1,8 @@
--- `Ring::remove` meets its promise: the entries before i shift or those after it, a law for each, and the slot set free gets 0. Assumes nothing.
+-- `Ring::remove` meets its promise: the entries before i shift or those after it, a law for each, and the slot set free gets 0.
 use borrow.Author.Needs.{needs}
 use Rattle.table.specs.Does.{does}
-use Rattle.table.proofs.Valid.{state}
-use Rattle.table.proofs.Shifted.{remove-front-done, remove-back-done}
+use Rattle.table.proofs.Laws.Valid.{state}
+use Rattle.table.proofs.Laws.Shifted.{remove-front-done, remove-back-done}
 use Rattle.ring.proofs.Told.{refusals, shown}
 use Rattle.ring.proofs.Ring.remove.Statement.{statement}
 use Rattle.ring.proofs.Ring.remove.Tie as tie

@@ -1,8 +1,8 @@
--- `Ring::reserve` meets its promise: nothing is stored, and the room left is the row's difference. Assumes nothing.
+-- `Ring::reserve` meets its promise: nothing is stored, and the room left is the row's difference.
 use borrow.Author.Needs.{needs}
 use Rattle.table.specs.Does.{does}
-use Rattle.table.proofs.Valid.{state}
-use Rattle.table.proofs.Looks.{reserve-done}
+use Rattle.table.proofs.Laws.Valid.{state}
+use Rattle.table.proofs.Laws.Looks.{reserve-done}
 use Rattle.ring.proofs.Told.{refusals, shown}
 use Rattle.ring.proofs.Ring.reserve.Statement.{statement}
 use Rattle.ring.proofs.Ring.reserve.Tie as tie

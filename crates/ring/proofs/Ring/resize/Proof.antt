@@ -1,8 +1,8 @@
--- `Ring::resize` meets its promise: the run that goes is filled with 0, or that which comes with x, or all stays, a law for each. Assumes nothing.
+-- `Ring::resize` meets its promise: the run that goes is filled with 0, or that which comes with x, or all stays, a law for each.
 use borrow.Author.Needs.{needs}
 use Rattle.table.specs.Does.{does}
-use Rattle.table.proofs.Valid.{state}
-use Rattle.table.proofs.Cut.{resize-cut-done, resize-more-done, resize-same-done}
+use Rattle.table.proofs.Laws.Valid.{state}
+use Rattle.table.proofs.Laws.Cut.{resize-cut-done, resize-more-done, resize-same-done}
 use Rattle.ring.proofs.Told.{refusals, shown}
 use Rattle.ring.proofs.Ring.resize.Statement.{statement}
 use Rattle.ring.proofs.Ring.resize.Tie as tie

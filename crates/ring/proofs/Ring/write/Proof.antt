@@ -1,8 +1,8 @@
--- `Ring::write` meets its promise: one store in the slot of position i. Assumes nothing.
+-- `Ring::write` meets its promise: one store in the slot of position i.
 use borrow.Author.Needs.{needs}
 use Rattle.table.specs.Does.{does}
-use Rattle.table.proofs.Valid.{state}
-use Rattle.table.proofs.Stores.{write-done}
+use Rattle.table.proofs.Laws.Valid.{state}
+use Rattle.table.proofs.Laws.Stores.{write-done}
 use Rattle.ring.proofs.Told.{refusals, shown}
 use Rattle.ring.proofs.Ring.write.Statement.{statement}
 use Rattle.ring.proofs.Ring.write.Tie as tie

@@ -1,7 +1,7 @@
--- `Vector::as_mut_slice` meets its promise: the part of all entries, or the empty one at slot 0. Assumes nothing.
+-- `Vector::as_mut_slice` meets its promise: the part of all entries, or the empty one at slot 0.
 use borrow.Author.Needs.{needs}
-use Rattle.table.proofs.Valid.{state}
-use Rattle.vector.proofs.Lending.{all-within, lending}
+use Rattle.table.proofs.Laws.Valid.{state}
+use Rattle.table.proofs.Laws.Lending.{all-within, lending}
 use Rattle.vector.proofs.Vector.as_mut_slice.Statement.{statement}
 use Rattle.vector.proofs.Vector.as_mut_slice.Tie as tie
 

@@ -1,7 +1,7 @@
--- `Vector::ask_range` meets its promise: nothing is stored, and both ways astray are the row's one refusal. Assumes nothing.
+-- `Vector::ask_range` meets its promise: nothing is stored, and both ways astray are the row's one refusal.
 use borrow.Author.Needs.{needs}
 use Rattle.table.specs.Does.{does}
-use Rattle.table.proofs.Looks.{range-done}
+use Rattle.table.proofs.Laws.Looks.{range-done}
 use Rattle.vector.proofs.Told.{refusals, shown}
 use Rattle.vector.proofs.Vector.ask_range.Statement.{statement}
 use Rattle.vector.proofs.Vector.ask_range.Tie as tie

@@ -1,8 +1,8 @@
--- `Vector::clear` meets its promise: the run of all entries is filled with 0. Assumes nothing.
+-- `Vector::clear` meets its promise: the run of all entries is filled with 0.
 use borrow.Author.Needs.{needs}
 use Rattle.table.specs.Does.{does}
-use Rattle.table.proofs.Valid.{state}
-use Rattle.table.proofs.Cut.{clear-done}
+use Rattle.table.proofs.Laws.Valid.{state}
+use Rattle.table.proofs.Laws.Cut.{clear-done}
 use Rattle.vector.proofs.Told.{refusals, shown}
 use Rattle.vector.proofs.Vector.clear.Statement.{statement}
 use Rattle.vector.proofs.Vector.clear.Tie as tie

@@ -1,8 +1,8 @@
--- `Vector::extend_from_slice` meets its promise: the run behind the entries gets a copy of the slice. Assumes nothing.
+-- `Vector::extend_from_slice` meets its promise: the run behind the entries gets a copy of the slice.
 use borrow.Author.Needs.{needs}
 use Rattle.table.specs.Does.{does}
-use Rattle.table.proofs.Valid.{state}
-use Rattle.table.proofs.Cut.{extend-done}
+use Rattle.table.proofs.Laws.Valid.{state}
+use Rattle.table.proofs.Laws.Cut.{extend-done}
 use Rattle.vector.proofs.Told.{refusals, shown}
 use Rattle.vector.proofs.Vector.extend_from_slice.Statement.{statement}
 use Rattle.vector.proofs.Vector.extend_from_slice.Tie as tie

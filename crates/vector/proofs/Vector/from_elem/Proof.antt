@@ -1,7 +1,7 @@
--- `Vector::from_elem` meets its promise: the run of the first k slots is filled with x. Assumes nothing.
+-- `Vector::from_elem` meets its promise: the run of the first k slots is filled with x.
 use borrow.Author.Needs.{needs}
 use Rattle.table.specs.Does.{made}
-use Rattle.table.proofs.Made.{from-elem-done}
+use Rattle.table.proofs.Laws.Made.{from-elem-done}
 use Rattle.vector.proofs.Told.{refusals, shown}
 use Rattle.vector.proofs.Vector.from_elem.Statement.{statement}
 use Rattle.vector.proofs.Vector.from_elem.Tie as tie

@@ -1,7 +1,7 @@
--- `Vector::insert` meets its promise: the run from i on shifts by one, and x goes to slot i. Assumes nothing.
+-- `Vector::insert` meets its promise: the run from i on shifts by one, and x goes to slot i.
 use borrow.Author.Needs.{needs}
 use Rattle.table.specs.Does.{does}
-use Rattle.table.proofs.Shifted.{vector-insert-done}
+use Rattle.table.proofs.Laws.Shifted.{vector-insert-done}
 use Rattle.vector.proofs.Told.{refusals, shown}
 use Rattle.vector.proofs.Vector.insert.Statement.{statement}
 use Rattle.vector.proofs.Vector.insert.Tie as tie

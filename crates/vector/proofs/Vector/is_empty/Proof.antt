@@ -1,7 +1,7 @@
--- `Vector::is_empty` meets its promise: nothing is stored, and a law for each answer. Assumes nothing.
+-- `Vector::is_empty` meets its promise: nothing is stored, and a law for each answer.
 use borrow.Author.Needs.{needs}
 use Rattle.table.specs.Does.{does}
-use Rattle.table.proofs.Looks.{empty-done, filled-done}
+use Rattle.table.proofs.Laws.Looks.{empty-done, filled-done}
 use Rattle.vector.proofs.Told.{refusals, shown}
 use Rattle.vector.proofs.Vector.is_empty.Statement.{statement}
 use Rattle.vector.proofs.Vector.is_empty.Tie as tie

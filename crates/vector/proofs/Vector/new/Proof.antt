@@ -1,7 +1,7 @@
--- `Vector::new` meets its promise: no slot is touched, and the list is empty. Assumes nothing.
+-- `Vector::new` meets its promise: no slot is touched, and the list is empty.
 use borrow.Author.Needs.{needs}
 use Rattle.table.specs.Does.{made}
-use Rattle.table.proofs.Made.{new-done}
+use Rattle.table.proofs.Laws.Made.{new-done}
 use Rattle.vector.proofs.Told.{refusals, shown}
 use Rattle.vector.proofs.Vector.new.Statement.{statement}
 use Rattle.vector.proofs.Vector.new.Tie as tie

@@ -1,8 +1,8 @@
--- `Vector::pop` meets its promise: 0 is stored in the last entry's slot. Assumes nothing.
+-- `Vector::pop` meets its promise: 0 is stored in the last entry's slot.
 use borrow.Author.Needs.{needs}
 use Rattle.table.specs.Does.{does}
-use Rattle.table.proofs.Valid.{state}
-use Rattle.table.proofs.Stores.{vector-pop-done}
+use Rattle.table.proofs.Laws.Valid.{state}
+use Rattle.table.proofs.Laws.Stores.{vector-pop-done}
 use Rattle.vector.proofs.Told.{refusals, shown}
 use Rattle.vector.proofs.Vector.pop.Statement.{statement}
 use Rattle.vector.proofs.Vector.pop.Tie as tie

@@ -1,8 +1,8 @@
--- `Vector::push` meets its promise: one store in slot n, which was free. Assumes nothing.
+-- `Vector::push` meets its promise: one store in slot n, which was free.
 use borrow.Author.Needs.{needs}
 use Rattle.table.specs.Does.{does}
-use Rattle.table.proofs.Valid.{state}
-use Rattle.table.proofs.Stores.{vector-push-done}
+use Rattle.table.proofs.Laws.Valid.{state}
+use Rattle.table.proofs.Laws.Stores.{vector-push-done}
 use Rattle.vector.proofs.Told.{refusals, shown}
 use Rattle.vector.proofs.Vector.push.Statement.{statement}
 use Rattle.vector.proofs.Vector.push.Tie as tie

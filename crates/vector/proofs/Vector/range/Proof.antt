@@ -1,7 +1,7 @@
--- `Vector::range` meets its promise: the part asked for, or the empty one at slot 0: by the tests that tell which. Assumes nothing.
+-- `Vector::range` meets its promise: the part asked for, or the empty one at slot 0: by the tests that tell which.
 use borrow.Author.Needs.{needs}
-use Rattle.table.proofs.Valid.{state}
-use Rattle.vector.proofs.Lending.{lending}
+use Rattle.table.proofs.Laws.Valid.{state}
+use Rattle.table.proofs.Laws.Lending.{lending}
 use Rattle.vector.proofs.Vector.range.Statement.{statement}
 use Rattle.vector.proofs.Vector.range.Tie as tie
 

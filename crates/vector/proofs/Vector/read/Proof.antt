@@ -1,8 +1,8 @@
--- `Vector::read` meets its promise: slot i holds the entry of position i. Assumes nothing.
+-- `Vector::read` meets its promise: slot i holds the entry of position i.
 use borrow.Author.Needs.{needs}
 use Rattle.table.specs.Does.{does}
-use Rattle.table.proofs.Valid.{state}
-use Rattle.table.proofs.Looks.{vector-read-done}
+use Rattle.table.proofs.Laws.Valid.{state}
+use Rattle.table.proofs.Laws.Looks.{vector-read-done}
 use Rattle.vector.proofs.Told.{refusals, shown}
 use Rattle.vector.proofs.Vector.read.Statement.{statement}
 use Rattle.vector.proofs.Vector.read.Tie as tie

@@ -1,8 +1,8 @@
--- `Vector::remove` meets its promise: the run after i shifts by one, and the last slot gets 0. Assumes nothing.
+-- `Vector::remove` meets its promise: the run after i shifts by one, and the last slot gets 0.
 use borrow.Author.Needs.{needs}
 use Rattle.table.specs.Does.{does}
-use Rattle.table.proofs.Valid.{state}
-use Rattle.table.proofs.Shifted.{vector-remove-done}
+use Rattle.table.proofs.Laws.Valid.{state}
+use Rattle.table.proofs.Laws.Shifted.{vector-remove-done}
 use Rattle.vector.proofs.Told.{refusals, shown}
 use Rattle.vector.proofs.Vector.remove.Statement.{statement}
 use Rattle.vector.proofs.Vector.remove.Tie as tie

@@ -1,8 +1,8 @@
--- `Vector::reserve` meets its promise: nothing is stored, and the room left is the row's difference. Assumes nothing.
+-- `Vector::reserve` meets its promise: nothing is stored, and the room left is the row's difference.
 use borrow.Author.Needs.{needs}
 use Rattle.table.specs.Does.{does}
-use Rattle.table.proofs.Valid.{state}
-use Rattle.table.proofs.Looks.{reserve-done}
+use Rattle.table.proofs.Laws.Valid.{state}
+use Rattle.table.proofs.Laws.Looks.{reserve-done}
 use Rattle.vector.proofs.Told.{refusals, shown}
 use Rattle.vector.proofs.Vector.reserve.Statement.{statement}
 use Rattle.vector.proofs.Vector.reserve.Tie as tie

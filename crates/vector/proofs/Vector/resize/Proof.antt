@@ -1,9 +1,9 @@
--- `Vector::resize` meets its promise: the run that goes is filled with 0, or that which comes with x, a law for each. Assumes nothing.
+-- `Vector::resize` meets its promise: the run that goes is filled with 0, or that which comes with x, a law for each.
 use borrow.Author.Needs.{needs}
 use Rattle.table.specs.Does.{does}
-use Rattle.table.proofs.Valid.{state}
-use Rattle.table.proofs.Cut.{resize-cut-done}
-use Rattle.table.proofs.VectorDone.{vector-resize-more-done}
+use Rattle.table.proofs.Laws.Valid.{state}
+use Rattle.table.proofs.Laws.Cut.{resize-cut-done}
+use Rattle.table.proofs.Laws.VectorDone.{vector-resize-more-done}
 use Rattle.vector.proofs.Told.{refusals, shown}
 use Rattle.vector.proofs.Vector.resize.Statement.{statement}
 use Rattle.vector.proofs.Vector.resize.Tie as tie

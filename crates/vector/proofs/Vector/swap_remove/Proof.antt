@@ -1,10 +1,10 @@
--- `Vector::swap_remove` meets its promise: the last entry goes to slot i, unless it is the one removed, a law for each. Assumes nothing.
+-- `Vector::swap_remove` meets its promise: the last entry goes to slot i, unless it is the one removed, a law for each.
 use borrow.Author.Needs.{needs}
 use lib.ListN.{length-set}
 use Rattle.table.specs.Does.{does}
-use Rattle.table.proofs.Valid.{state}
-use Rattle.table.proofs.VectorDone.{vector-swap-last-done}
-use Rattle.table.proofs.Shifted.{swap-done}
+use Rattle.table.proofs.Laws.Valid.{state}
+use Rattle.table.proofs.Laws.VectorDone.{vector-swap-last-done}
+use Rattle.table.proofs.Laws.Shifted.{swap-done}
 use Rattle.vector.proofs.Told.{refusals, shown}
 use Rattle.vector.proofs.Vector.swap_remove.Statement.{statement}
 use Rattle.vector.proofs.Vector.swap_remove.Tie as tie

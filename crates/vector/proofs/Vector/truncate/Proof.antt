@@ -1,8 +1,8 @@
--- `Vector::truncate` meets its promise: all stay, or the run from k on is filled with 0, a law for each. Assumes nothing.
+-- `Vector::truncate` meets its promise: all stay, or the run from k on is filled with 0, a law for each.
 use borrow.Author.Needs.{needs}
 use Rattle.table.specs.Does.{does}
-use Rattle.table.proofs.Valid.{state}
-use Rattle.table.proofs.Cut.{truncate-same-done, truncate-done}
+use Rattle.table.proofs.Laws.Valid.{state}
+use Rattle.table.proofs.Laws.Cut.{truncate-same-done, truncate-done}
 use Rattle.vector.proofs.Told.{refusals, shown}
 use Rattle.vector.proofs.Vector.truncate.Statement.{statement}
 use Rattle.vector.proofs.Vector.truncate.Tie as tie

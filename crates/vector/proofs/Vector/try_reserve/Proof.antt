@@ -1,4 +1,4 @@
--- `Vector::try_reserve` meets its promise: its row of the table is that of `reserve`. Assumes nothing.
+-- `Vector::try_reserve` meets its promise: its row of the table is that of `reserve`.
 use borrow.Author.Needs.{needs}
 use Rattle.table.specs.Does.{does}
 use Rattle.vector.proofs.Vector.try_reserve.Statement.{statement}

@@ -1,4 +1,4 @@
--- `Vector::try_reserve_exact` meets its promise: its row of the table is that of `try_reserve`. Assumes nothing.
+-- `Vector::try_reserve_exact` meets its promise: its row of the table is that of `try_reserve`.
 use borrow.Author.Needs.{needs}
 use Rattle.table.specs.Does.{does}
 use Rattle.vector.proofs.Vector.try_reserve_exact.Statement.{statement}

@@ -1,7 +1,7 @@
--- `Vector::with_capacity` meets its promise: its two refusals in their order; no slot is touched, and the list is empty. Assumes nothing.
+-- `Vector::with_capacity` meets its promise: its two refusals in their order; no slot is touched, and the list is empty.
 use borrow.Author.Needs.{needs}
 use Rattle.table.specs.Does.{made}
-use Rattle.table.proofs.Made.{with-capacity-done}
+use Rattle.table.proofs.Laws.Made.{with-capacity-done}
 use Rattle.vector.proofs.Told.{refusals, shown}
 use Rattle.vector.proofs.Vector.with_capacity.Statement.{statement}
 use Rattle.vector.proofs.Vector.with_capacity.Tie as tie

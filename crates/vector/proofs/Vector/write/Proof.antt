@@ -1,8 +1,8 @@
--- `Vector::write` meets its promise: one store in slot i. Assumes nothing.
+-- `Vector::write` meets its promise: one store in slot i.
 use borrow.Author.Needs.{needs}
 use Rattle.table.specs.Does.{does}
-use Rattle.table.proofs.Valid.{state}
-use Rattle.table.proofs.VectorDone.{vector-write-done}
+use Rattle.table.proofs.Laws.Valid.{state}
+use Rattle.table.proofs.Laws.VectorDone.{vector-write-done}
 use Rattle.vector.proofs.Told.{refusals, shown}
 use Rattle.vector.proofs.Vector.write.Statement.{statement}
 use Rattle.vector.proofs.Vector.write.Tie as tie

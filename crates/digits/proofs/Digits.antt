@@ -1,0 +1,90 @@
+-- Digits read from a text: what is left of it decides, and what was read fits its digits.
+use mathlib.Core.Path.{_≡_, refl, sym, ap, _∙_}
+use mathlib.Core.Bool.{Bool, true, false, not, _&&_, _||_}
+use mathlib.Core.List.{List, [], _∷_}
+use Prim.Native.Nat.{ℕ, zero, suc, _+_, _-_, _*_, _^_, _≤_, _<_}
+use native.Mathlib.Nat.{not-suc-le-zero, le-of-suc-le-suc, pow-suc, pow-le-pow-right}
+use native.Mathlib.Numerals.{add-one}
+use native.Mathlib.Omega.{arith}
+use borrow.Author.Tests.{leb-true, ltb-true, not-true, not-false}
+use lib.Dec.{leb, ltb}
+use lib.ListN.{length, getD, drop, drop-of-length-le}
+use lib.Seq.{drop-cons}
+use Rattle.digits.specs.Hex.{isDigit, areDigits, worth, saysFrom}
+
+-- what is left from i on: one byte, and what is left from i + 1 on
+left : (s : List ℕ) (i : ℕ) → i < length s → drop i s ≡ getD s i 0 ∷ drop (i + 1) s
+left s i h = rw (add-one, drop-cons s i 0)
+
+none-left : (s : List ℕ) (i : ℕ) → length s ≤ i → drop i s ≡ []
+none-left s i h = drop-of-length-le s {i = i} h
+
+-- of a loop that tests byte after byte: it goes on, stops at a byte that is no digit, or ends
+pub digits-turn : (s : List ℕ) (i : ℕ) (v d : Bool) → areDigits (drop i s) ≡ v → i < length s → d ≡ not (isDigit (getD s i 0)) → d ≡ false
+    → areDigits (drop (i + 1) s) ≡ v
+digits-turn s i v d is h e good =
+    let yes : isDigit (getD s i 0) ≡ true = not-false _ (sym e ∙ good) in
+    sym (ap areDigits (left s i h) ∙ rw yes refl) ∙ is
+
+pub digits-stop : (s : List ℕ) (i : ℕ) (v d : Bool) → areDigits (drop i s) ≡ v → i < length s → d ≡ not (isDigit (getD s i 0)) → d ≡ true → false ≡ v
+digits-stop s i v d is h e bad =
+    let no : isDigit (getD s i 0) ≡ false = not-true _ (sym e ∙ bad) in
+    sym (ap areDigits (left s i h) ∙ rw no refl) ∙ is
+
+pub digits-end : (s : List ℕ) (i : ℕ) (v : Bool) → areDigits (drop i s) ≡ v → length s ≤ i → true ≡ v
+digits-end s i v is h = sym (ap areDigits (none-left s i h)) ∙ is
+
+-- each byte of a run of digits is one
+and-left : (a b : Bool) → a && b ≡ true → a ≡ true
+and-left true b e = refl
+and-left false b e = e
+
+and-right : (a b : Bool) → a && b ≡ true → b ≡ true
+and-right true b e = e
+and-right false b e = absurd (let z : _≡_ {A = ℕ} 0 1 = cc in omega arith)
+
+pub digit-at : (s : List ℕ) (i : ℕ) → areDigits s ≡ true → i < length s → isDigit (getD s i 0) ≡ true
+digit-at [] i e h = absurd (not-suc-le-zero h)
+digit-at (b ∷ s) zero e h = and-left _ _ e
+digit-at (b ∷ s) (suc i) e h = digit-at s i (and-right (isDigit b) _ e) (le-of-suc-le-suc h)
+
+-- the two ranges of a digit
+pub record Range (b : ℕ) : Type 0 where
+  pub low : b < 58 → 48 ≤ b
+  pub high : 58 ≤ b → (97 ≤ b) × (b < 103)
+
+pub range : (b : ℕ) → isDigit b ≡ true → Range b
+range b e = go (leb 48 b && ltb b 58) refl e
+  where
+    go : (low : Bool) → leb 48 b && ltb b 58 ≡ low → low || (leb 97 b && ltb b 103) ≡ true → Range b
+    go true p q = record {
+      low = λ h. leb-true 48 b (and-left _ _ p);
+      high = λ h. absurd (let lt = ltb-true b 58 (and-right (leb 48 b) _ p) in omega arith);
+    }
+    go false p q = record {
+      low = λ h. absurd (let le = leb-true 97 b (and-left _ _ q) in omega arith);
+      high = λ h. (leb-true 97 b (and-left _ _ q), ltb-true b 103 (and-right (leb 97 b) _ q));
+    }
+
+-- of a loop that reads digit after digit: x is what was read
+pub says-turn : (s : List ℕ) (i x w v : ℕ) → saysFrom x (drop i s) ≡ v → i < length s → w ≡ worth (getD s i 0) → saysFrom (x * 16 + w) (drop (i + 1) s) ≡ v
+says-turn s i x w v is h e = rw e (sym (ap (saysFrom x) (left s i h))) ∙ is
+
+pub says-end : (s : List ℕ) (i x v : ℕ) → saysFrom x (drop i s) ≡ v → length s ≤ i → x ≡ v
+says-end s i x v is h = sym (ap (saysFrom x) (none-left s i h)) ∙ is
+
+-- i digits say less than 16 to the i
+pub grows : (i x w : ℕ) → x < 16 ^ i → w < 16 → x * 16 + w < 16 ^ (i + 1)
+grows i x w lx lw = rw (add-one, pow-suc) (omega arith)
+
+pub fits : (i x w : ℕ) → x < 16 ^ i → w < 16 → i < 16 → x * 16 + w < 2 ^ 64
+fits i x w lx lw h =
+    let most : 16 ^ (i + 1) ≤ 16 ^ 16 = let up : i + 1 ≤ 16 = omega arith in pow-le-pow-right {n = 16} (omega arith) up in
+    let all : _≡_ {A = ℕ} (16 ^ 16) (2 ^ 64) = refl in
+    omega (arith, grows i x w lx lw)
+
+pub times-fits : (i x : ℕ) → x < 16 ^ i → i < 16 → x * 16 < 2 ^ 64
+times-fits i x lx h = omega (arith, fits i x 0 lx (omega arith) h)
+
+pub small-end : (i x n : ℕ) → x < 16 ^ i → i ≤ n → n ≤ i → x < 16 ^ n
+small-end i x n lx p q = let e : i ≡ n = omega arith in rw e at lx

@@ -1,0 +1,72 @@
+// Hexadecimal text: digits put into a lent text, and read back from one.
+ghost use mathlib.Core.Path.{_≡_};
+ghost use Prim.Native.Nat.{_+_, _^_, _≤_, _<_};
+ghost use mathlib.Core.Bool.{true, not};
+ghost use lib.ListN.{length};
+ghost use Rattle.digits.specs.Hex.{digit, hex, areDigits, says, isDigit, worth};
+ghost use Rattle.digits.specs.Put.{put};
+
+// The byte of a digit.
+fn digit(d: u8) -> u8
+    requires { ⌜ d < 16 ⌝ }
+    ensures { λ r. ⌜ r ≡ digit d ⌝ }
+{
+    if d < 10 { 48 + d } else { 87 + d }
+}
+
+// The count digits that say x, from a place of the text on.
+pub fn put_hex(text: &mut [u8], at: usize, count: usize, x: u64)
+    requires { ⌜ at + count ≤ length (now text) ⌝ }
+    ensures { λ _. ⌜ now (text .exit) ≡ put (now (text .entry)) at (hex count x) ⌝ }
+{
+    let mut k = count;
+    let mut rest = x;
+    while 0 < k {
+        k -= 1;
+        text[at + k] = digit((rest % 16) as u8);
+        rest = rest / 16;
+    }
+}
+
+// Whether a byte is no lower-case hexadecimal digit.
+fn no_digit(b: u8) -> bool
+    ensures { λ r. ⌜ r ≡ not (isDigit b) ⌝ }
+{
+    !(((48 <= b) & (b < 58)) | ((97 <= b) & (b < 103)))
+}
+
+// Whether all of a part is digits.
+pub fn are_digits(part: &[u8]) -> bool
+    ensures { λ r. ⌜ r ≡ areDigits (now (part .entry)) ⌝ }
+{
+    let mut i = 0;
+    while i < part.len() {
+        if no_digit(part[i]) {
+            return false;
+        }
+        i += 1;
+    }
+    true
+}
+
+// What a digit says.
+fn worth(b: u8) -> u64
+    requires { ⌜ isDigit b ≡ true ⌝ }
+    ensures { λ r. ⌜ (r ≡ worth b) × (r < 16) ⌝ }
+{
+    if b < 58 { b as u64 - 48 } else { b as u64 - 87 }
+}
+
+// What a part says, all of it digits and no more than a 64-bit number has.
+pub fn number(part: &[u8]) -> u64
+    requires { ⌜ (areDigits (now part) ≡ true) × (length (now part) ≤ 16) ⌝ }
+    ensures { λ r. ⌜ (r ≡ says (now (part .entry))) × (r < 16 ^ length (now (part .entry))) ⌝ }
+{
+    let mut x: u64 = 0;
+    let mut i = 0;
+    while i < part.len() {
+        x = x * 16 + worth(part[i]);
+        i += 1;
+    }
+    x
+}

@@ -1,0 +1,2 @@
+-- What promises cite of the width of an entry.
+pub mod Width

@@ -1,0 +1,10 @@
+-- Worked cases, computed from the definitions, and a run of calls.
+pub mod Samples
+pub mod Worked
+pub mod WorkedChanges
+pub mod WorkedTwo
+pub mod WorkedMakings
+pub mod WorkedCarrying
+pub mod WorkedLedger
+pub mod WorkedKinds
+pub mod Run

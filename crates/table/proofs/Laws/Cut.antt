@@ -1,0 +1,135 @@
+-- What truncate, resize, clear and extend_from_slice do where they are done, as the proof of each function finds it: o is what is seen, and each
+-- premise a fact that the code's steps tell.
+use mathlib.Core.Path.{_≡_, refl}
+use mathlib.Core.Bool.{false}
+use mathlib.Core.List.{List, _++_, append-nil}
+use Prim.Native.Nat.{ℕ, _+_, _-_, _≤_, _<_}
+use native.Mathlib.Omega.{arith}
+use borrow.Author.Tests.{le-ltb}
+use lib.ListN.{length, take, replicate, length-take, length-append, length-replicate}
+use lib.Seq.{take-all}
+use Rattle.slots.specs.Layout.{Kind, place}
+use Rattle.slots.specs.Moves.{moved, kept}
+use Rattle.slots.specs.Shift.{Filled}
+use Rattle.slots.specs.Copy.{Laid}
+use Rattle.slots.proofs.Placing.{placing}
+use Rattle.slots.proofs.Moves.{moved-kept, moved-none}
+use Rattle.slots.proofs.Fills.{fill-none, relaid-take}
+use Rattle.slots.proofs.Lays.{relaid-append, relaid-clear, fill-lays}
+use Rattle.table.specs.Tray.{Tray, cap, list, invalid}
+use Rattle.table.specs.Calls.{truncate, resize, clear, extend}
+use Rattle.table.specs.Does.{Outcome, gives, headIn, does}
+use Rattle.table.proofs.Laws.Valid.{fit}
+use Rattle.table.proofs.Laws.Done.{done-is, no-head, many, still, as-it-was, same-place, same-pos}
+
+module _ (k : Kind) (t : Tray) (o : Outcome) (ok : invalid k t ≡ false) where
+  keeps : (i : ℕ) → moved (place k (cap t) (t .head)) (place k (cap t) (t .head)) (kept i) (t .len) ≡ 0
+  keeps i = moved-kept (place k (cap t) (t .head)) i (t .len)
+
+  -- the list with no more than i entries is not cut, and one with more is
+  whole : (i : ℕ) → t .len ≤ i → take i (list k t) ≡ list k t
+  whole i h = take-all i (list k t) (omega (arith, many k t))
+
+  cut : (i : ℕ) → i < t .len → length (take i (list k t)) ≡ i
+  cut i h = simp (length-take, many k t) (omega arith)
+
+  pub truncate-same-done : (i : ℕ) → t .len ≤ i → o ≡ gives 0 0 (headIn k (t .head)) (t .len) (t .slots) → o ≡ does k (truncate i) t
+  truncate-same-done i h eo =
+      cc (eo, done-is k t (truncate i) ok tt, whole i h, many k t, keeps i, as-it-was k t ok, same-place k (cap t) (t .head), same-pos k (cap t) (t .head))
+
+  pub truncate-done : (i : ℕ) (u : List ℕ) → i < t .len → Filled (place k (cap t) (t .head)) i (t .len) 0 (t .slots) u
+      → o ≡ gives 0 0 (headIn k (t .head)) i u → o ≡ does k (truncate i) t
+  truncate-done i u h m eo =
+      let f = fit k t ok in
+      cc (
+        eo,
+        done-is k t (truncate i) ok tt,
+        cut i h,
+        keeps i,
+        relaid-take _ _ (t .len) i (t .slots) u (f .placed) (f .fits) (omega arith) m,
+        same-place k (cap t) (t .head),
+        same-pos k (cap t) (t .head),
+      )
+
+  -- resize to fewer, to more, to as many
+  pub resize-cut-done : (i x : ℕ) (u : List ℕ) → i ≤ cap t → i < t .len → Filled (place k (cap t) (t .head)) i (t .len) 0 (t .slots) u
+      → o ≡ gives 0 0 (headIn k (t .head)) i u → o ≡ does k (resize i x) t
+  resize-cut-done i x u fits h m eo =
+      let f = fit k t ok in
+      let no-more : i - length (list k t) ≡ 0 = omega (arith, many k t) in
+      cc (
+        eo,
+        done-is k t (resize i x) ok (le-ltb _ _ fits, tt),
+        cut i h,
+        no-more,
+        append-nil (take i (list k t)),
+        keeps i,
+        relaid-take _ _ (t .len) i (t .slots) u (f .placed) (f .fits) (omega arith) m,
+        same-place k (cap t) (t .head),
+        same-pos k (cap t) (t .head),
+      )
+
+  pub resize-more-done : (i x : ℕ) (u : List ℕ) → i ≤ cap t → t .len < i → Filled (place k (cap t) (t .head)) (t .len) i x (t .slots) u
+      → o ≡ gives 0 0 (headIn k (t .head)) i u → o ≡ does k (resize i x) t
+  resize-more-done i x u fits h m eo =
+      let f = fit k t ok in
+      let more : ℕ = i - t .len in
+      let sum : t .len + more ≡ i = omega arith in
+      let long : length (list k t ++ replicate more x) ≡ i = simp (length-append, many k t, length-replicate) (omega arith) in
+      cc (
+        eo,
+        done-is k t (resize i x) ok (le-ltb _ _ fits, tt),
+        whole i (omega arith),
+        many k t,
+        long,
+        keeps i,
+        relaid-append _ _ (t .len) more (replicate more x) (t .slots) u (f .placed) (length-replicate more x) (omega arith)
+            (fill-lays _ (t .len) more x (t .slots) u (rw sum m)),
+        same-place k (cap t) (t .head),
+        same-pos k (cap t) (t .head),
+      )
+
+  pub resize-same-done : (i x : ℕ) → i ≤ cap t → t .len ≤ i → i ≤ t .len → o ≡ gives 0 0 (headIn k (t .head)) (t .len) (t .slots) → o ≡ does k (resize i x) t
+  resize-same-done i x fits h le eo =
+      let no-more : i - length (list k t) ≡ 0 = omega (arith, many k t) in
+      cc (
+        eo,
+        done-is k t (resize i x) ok (le-ltb _ _ fits, tt),
+        whole i h,
+        no-more,
+        append-nil (list k t),
+        many k t,
+        keeps i,
+        as-it-was k t ok,
+        same-place k (cap t) (t .head),
+        same-pos k (cap t) (t .head),
+      )
+
+  -- all gone, and the head at 0
+  pub clear-done : (u : List ℕ) → Filled (place k (cap t) (t .head)) 0 (t .len) 0 (t .slots) u → o ≡ gives 0 0 0 0 u → o ≡ does k clear t
+  clear-done u m eo =
+      cc (
+        eo,
+        done-is k t clear ok tt,
+        no-head k,
+        moved-none (place k (cap t) (t .head)) (place k (cap t) 0) (t .len),
+        relaid-clear _ _ _ _ (t .len) (t .slots) u (fit k t ok .placed) (placing k (cap t) 0 (omega arith)) m,
+      )
+
+  pub clear-none-done : t .len ≡ 0 → o ≡ gives 0 0 0 0 (t .slots) → o ≡ does k clear t
+  clear-none-done none eo = clear-done (t .slots) (rw none (fill-none _ _ _ _)) eo
+
+  pub extend-done : (s u : List ℕ) → length s ≤ cap t - t .len → Laid (place k (cap t) (t .head)) (t .len) (length s) s (t .slots) u
+      → o ≡ gives 0 0 (headIn k (t .head)) (t .len + length s) u → o ≡ does k (extend s) t
+  extend-done s u room m eo =
+      let f = fit k t ok in
+      let long : length (list k t ++ s) ≡ t .len + length s = simp (length-append, many k t) in
+      cc (
+        eo,
+        done-is k t (extend s) ok (le-ltb _ _ room, tt),
+        long,
+        still k t,
+        relaid-append _ _ (t .len) (length s) s (t .slots) u (f .placed) refl (omega (arith, f .fits)) m,
+        same-place k (cap t) (t .head),
+        same-pos k (cap t) (t .head),
+      )

@@ -1,0 +1,225 @@
+-- How many entries a call moves, and which. A ring moves those of the shorter side: the count of the definition comes to min(i, n − i) on insert
+-- and min(i, n − 1 − i) on remove. Then every call, done or refused.
+use mathlib.Core.Path.{_≡_, refl, sym, ap, _∙_}
+use mathlib.Core.Bool.{Bool, true, false, cond}
+use mathlib.Core.Logic.{⊎-elim}
+use mathlib.Core.List.{List}
+use Prim.Native.Nat.{ℕ, _+_, _-_, min, _≤_, _<_}
+use native.Mathlib.Omega.{arith}
+use borrow.Author.Tests.{lt-leb, lt-ltb, le-ltb, eq-eqb, ne-eqb, eqb-false, leb-false, ltb-false}
+use lib.Dec.{ltb, leb, eqb}
+use lib.ListN.{length}
+use Rattle.slots.specs.Count.{tally}
+use Rattle.slots.specs.Layout.{Kind, ring, vector, place, slotOf}
+use Rattle.slots.specs.Moves.{moved, inserted, removed, swapped, elsewhere}
+use Rattle.slots.proofs.Words.{below?, same?}
+use Rattle.slots.proofs.Placing.{placing, one-slot, slot-inside, slot-back, slot-on}
+use Rattle.slots.proofs.Moves.{moved-each, tally-before, tally-from, tally-past, insert-low-each, insert-high-each, remove-low-each, remove-high-each}
+use Rattle.slots.proofs.Moves.{moved-stay, moved-kept, moved-none, moved-replaced, swap-moves-none, swap-moves-one}
+use Rattle.table.specs.Tray.{Tray, cap, list, invalid, nowhere}
+use Rattle.table.specs.Calls.{Call, push, pushFront, pop, popFront, insert, remove, swapRemove, write, truncate, resize, clear, extend, look, has}
+use Rattle.table.specs.Calls.{Call2, append, splitOff, clone, fromIter, same, equal, Making}
+use Rattle.table.specs.Table.{headBack, headOn, after, after2, begins, makes}
+use Rattle.table.specs.Does.{Outcome, Outcome2, refused, refused2, rowOf, rowOf2, refusalsOf, refusalsOf2, refusalsMade, done, done2, does, does2, bare, made}
+use Rattle.table.specs.Ledger.{ifDone}
+use Rattle.table.proofs.Laws.Refusals.{Clear, either, if-refused}
+use Rattle.table.proofs.Laws.Valid.{fit, ring-inside}
+use Rattle.table.proofs.Laws.Done.{done-is, same-place}
+
+-- what the refusals that do not apply tell `omega`
+pub ruleset passed-tests = (arith, leb-false, ltb-false, eqb-false)
+
+-- where the head stays, the entries from i on, or those after i, take other slots
+module _ (k : Kind) (t : Tray) (ok : invalid k t ≡ false) where
+  insert-each-high : (i : ℕ) → t .len < cap t → (j : ℕ) → j < t .len
+      → elsewhere (place k (cap t) (t .head)) (place k (cap t) (t .head) j) (inserted i j) ≡ leb i j
+  insert-each-high i room =
+      let f = fit k t ok in
+      insert-high-each _ _ (t .len) i (λ j l. refl) (λ j l u e. let q = one-slot (f .placed) (j + 1) j (omega arith) (omega arith) e in omega arith)
+
+  remove-each-high : (i : ℕ) → (j : ℕ) → j < t .len
+      → elsewhere (place k (cap t) (t .head)) (place k (cap t) (t .head) j) (removed i j) ≡ ltb i j
+  remove-each-high i =
+      let f = fit k t ok in
+      remove-high-each _ _ (t .len) i (λ j l. refl) (λ j l u e. let q = one-slot (f .placed) (j - 1) j (omega arith) (omega arith) e in omega arith)
+
+  pub insert-high : (i : ℕ) → i ≤ t .len → t .len < cap t
+      → moved (place k (cap t) (t .head)) (place k (cap t) (t .head)) (inserted i) (t .len) ≡ t .len - i
+  insert-high i h room = moved-each _ _ _ (t .len) _ (insert-each-high i room) ∙ tally-from (t .len) i h
+
+  pub remove-high : (i : ℕ) → i < t .len → moved (place k (cap t) (t .head)) (place k (cap t) (t .head)) (removed i) (t .len) ≡ t .len - 1 - i
+  remove-high i h = moved-each _ _ _ (t .len) _ (remove-each-high i) ∙ tally-past (t .len) i h
+
+-- where a ring's head goes one back, or one on, those before i do
+module _ (t : Tray) (ok : invalid ring t ≡ false) where
+  insert-each-low : (i : ℕ) → i ≤ t .len → t .len < cap t → (j : ℕ) → j < t .len
+      → elsewhere (slotOf (cap t) (headBack (cap t) (t .head))) (slotOf (cap t) (t .head) j) (inserted i j) ≡ ltb j i
+  insert-each-low i h room =
+      let lt = ring-inside t ok (omega arith) in
+      let p = placing ring (cap t) (headBack (cap t) (t .head)) (omega (arith, slot-inside (cap t) (t .head) (cap t - 1) lt)) in
+      insert-low-each _ _ (t .len) i
+      (λ j l e. let q = one-slot p (j + 1) j (omega arith) (omega arith) (slot-back (cap t) (t .head) j lt ∙ sym e) in omega arith)
+      (λ j l u. slot-back (cap t) (t .head) j lt)
+
+  remove-each-low : (i : ℕ) → i < t .len → (j : ℕ) → j < t .len
+      → elsewhere (slotOf (cap t) (headOn (cap t) (t .head))) (slotOf (cap t) (t .head) j) (removed i j) ≡ ltb j i
+  remove-each-low i h =
+      let f = fit ring t ok in
+      remove-low-each _ _ (t .len) i
+      (λ j l e. let q = one-slot (f .placed) (j + 1) j (omega arith) (omega arith) (sym (slot-on (cap t) (t .head) j) ∙ e) in omega arith)
+      (λ j l u. slot-on (cap t) (t .head) (j - 1) ∙ ap (slotOf (cap t) (t .head)) (omega arith))
+
+  pub insert-low : (i : ℕ) → i ≤ t .len → t .len < cap t
+      → moved (slotOf (cap t) (t .head)) (slotOf (cap t) (headBack (cap t) (t .head))) (inserted i) (t .len) ≡ i
+  insert-low i h room = moved-each _ _ _ (t .len) _ (insert-each-low i h room) ∙ tally-before (t .len) i h
+
+  pub remove-low : (i : ℕ) → i < t .len → moved (slotOf (cap t) (t .head)) (slotOf (cap t) (headOn (cap t) (t .head))) (removed i) (t .len) ≡ i
+  remove-low i h = moved-each _ _ _ (t .len) _ (remove-each-low i h) ∙ tally-before (t .len) i (omega arith)
+
+  pub insert-moves : (i x : ℕ) → i ≤ t .len → t .len < cap t → does ring (insert i x) t .moves ≡ min i (t .len - i)
+  unfolding does
+  insert-moves i x fits room =
+      rw (ok, le-ltb _ _ fits, lt-leb _ _ room) (⊎-elim
+      (λ (near : i < t .len - i). rw (lt-ltb _ _ near) (insert-low i fits room ∙ omega arith))
+      (λ (far : t .len - i ≤ i). rw (le-ltb _ _ far) (insert-high ring t ok i fits room ∙ omega arith))
+      (below? i (t .len - i)))
+
+  pub remove-moves : (i : ℕ) → i < t .len → does ring (remove i) t .moves ≡ min i (t .len - 1 - i)
+  unfolding does
+  remove-moves i fits =
+      rw (ok, lt-leb _ _ fits) (⊎-elim
+      (λ (near : i < t .len - 1 - i). rw (lt-ltb _ _ near) (remove-low i fits ∙ omega arith))
+      (λ (far : t .len - 1 - i ≤ i). rw (le-ltb _ _ far) (remove-high ring t ok i fits ∙ omega arith))
+      (below? i (t .len - 1 - i)))
+
+-- WHICH SIDE. The entry at position j stands in another slot after the call, by its carrying.
+abbrev pub shifts : (k : Kind) (call : Call) (t : Tray) (j : ℕ) → Bool
+shifts k call t j = elsewhere (place k (cap t) (does k call t .tray .head)) (place k (cap t) (t .head) j) (rowOf k call t .carry j)
+
+-- these are the entries that are counted
+pub moves-are : (k : Kind) (call : Call) (t : Tray) → invalid k t ≡ false → Clear (rowOf k call t .refusals)
+    → does k call t .moves ≡ tally (t .len) (shifts k call t)
+unfolding moved
+moves-are k call t ok none =
+    let is = done-is k t call ok none in
+    ap (λ o. o .moves) is
+    ∙ ap (λ o. tally (t .len) (λ j. elsewhere (place k (cap t) (o .tray .head)) (place k (cap t) (t .head) j) (rowOf k call t .carry j))) (sym is)
+
+-- A ring's side: the front where it is shorter, and the head goes with it; else the back, also where they are alike, and the head stays.
+module _ (t : Tray) (ok : invalid ring t ≡ false) where
+  pub insert-near : (i x : ℕ) → i ≤ t .len → t .len < cap t → i < t .len - i
+      → (does ring (insert i x) t .tray .head ≡ headBack (cap t) (t .head)) × ((j : ℕ) → j < t .len → shifts ring (insert i x) t j ≡ ltb j i)
+  insert-near i x fits room near =
+      let is = done-is ring t (insert i x) ok (le-ltb _ _ fits, (lt-leb _ _ room, tt)) in
+      let head : does ring (insert i x) t .tray .head ≡ headBack (cap t) (t .head) = rw (is, lt-ltb _ _ near) in
+      (head, λ j h. rw head (insert-each-low t ok i fits room j h))
+
+  pub insert-far : (i x : ℕ) → i ≤ t .len → t .len < cap t → t .len - i ≤ i
+      → (does ring (insert i x) t .tray .head ≡ t .head) × ((j : ℕ) → j < t .len → shifts ring (insert i x) t j ≡ leb i j)
+  insert-far i x fits room far =
+      let is = done-is ring t (insert i x) ok (le-ltb _ _ fits, (lt-leb _ _ room, tt)) in
+      let head : does ring (insert i x) t .tray .head ≡ t .head = rw (is, le-ltb _ _ far) in
+      (head, λ j h. rw head (insert-each-high ring t ok i room j h))
+
+  pub remove-near : (i : ℕ) → i < t .len → i < t .len - 1 - i
+      → (does ring (remove i) t .tray .head ≡ headOn (cap t) (t .head)) × ((j : ℕ) → j < t .len → shifts ring (remove i) t j ≡ ltb j i)
+  remove-near i fits near =
+      let is = done-is ring t (remove i) ok (lt-leb _ _ fits, tt) in
+      let head : does ring (remove i) t .tray .head ≡ headOn (cap t) (t .head) = rw (is, lt-ltb _ _ near) in
+      (head, λ j h. rw head (remove-each-low t ok i fits j h))
+
+  pub remove-far : (i : ℕ) → i < t .len → t .len - 1 - i ≤ i
+      → (does ring (remove i) t .tray .head ≡ t .head) × ((j : ℕ) → j < t .len → shifts ring (remove i) t j ≡ ltb i j)
+  remove-far i fits far =
+      let is = done-is ring t (remove i) ok (lt-leb _ _ fits, tt) in
+      let head : does ring (remove i) t .tray .head ≡ t .head = rw (is, le-ltb _ _ far) in
+      (head, λ j h. rw head (remove-each-high ring t ok i j h))
+
+-- A vector has no head to move: always the back.
+pub vector-insert-shifts : (t : Tray) → invalid vector t ≡ false → (i x : ℕ) → t .len < cap t → (j : ℕ) → j < t .len → shifts vector (insert i x) t j ≡ leb i j
+vector-insert-shifts t ok i x room j h = insert-each-high vector t ok i room j h
+
+pub vector-remove-shifts : (t : Tray) → invalid vector t ≡ false → (i j : ℕ) → j < t .len → shifts vector (remove i) t j ≡ ltb i j
+vector-remove-shifts t ok i j h = remove-each-high vector t ok i j h
+
+-- EVERY CALL: the moves of one that is done, on n entries.
+abbrev pub eachKind : Kind → (rings vectors : ℕ) → ℕ
+eachKind ring a b = a
+eachKind vector a b = b
+
+abbrev pub movesIn : Kind → (n : ℕ) → Call → ℕ
+movesIn k n (push x) = 0
+movesIn k n (pushFront x) = 0
+movesIn k n pop = 0
+movesIn k n popFront = 0
+movesIn k n (insert i x) = eachKind k (min i (n - i)) (n - i)
+movesIn k n (remove i) = eachKind k (min i (n - 1 - i)) (n - 1 - i)
+movesIn k n (swapRemove i) = cond (eqb i (n - 1)) 0 1
+movesIn k n (write i x) = 0
+movesIn k n (truncate m) = 0
+movesIn k n (resize m x) = 0
+movesIn k n clear = 0
+movesIn k n (extend s) = 0
+movesIn k n (look q) = 0
+
+swap-moves : (k : Kind) (t : Tray) → invalid k t ≡ false → (i : ℕ) → i < t .len
+    → moved (place k (cap t) (t .head)) (place k (cap t) (t .head)) (swapped i (t .len)) (t .len) ≡ cond (eqb i (t .len - 1)) 0 1
+swap-moves k t ok i h =
+    let f = fit k t ok in
+    ⊎-elim
+    (λ (e : i ≡ t .len - 1). rw (eq-eqb _ _ e) (swap-moves-none _ (t .len) i e))
+    (λ (ne : i ≡ t .len - 1 → ⊥). rw (ne-eqb _ _ ne) (swap-moves-one _ (t .len) i h ne (λ e. ne (one-slot (f .placed) i (t .len - 1) (omega arith) (omega arith) e))))
+    (same? i (t .len - 1))
+
+row-moves : (k : Kind) (t : Tray) (call : Call) → has call k ≡ true → (all : Clear (refusalsOf k call t))
+    → done k t (after call (list k t)) (rowOf k call t) .moves ≡ movesIn k (t .len) call
+row-moves k t (push x) of e = rw (same-place k (cap t) (t .head)) (moved-stay _ (t .len))
+row-moves ring t (pushFront x) of e = insert-low t (e .0) 0 (omega arith) (omega passed-tests)
+row-moves vector t (pushFront x) of e = let z : _≡_ {A = ℕ} 0 1 = cc in absurd (omega arith)
+row-moves k t pop of e = rw (same-place k (cap t) (t .head)) (remove-high k t (e .0) (t .len - 1) (omega passed-tests) ∙ omega arith)
+row-moves ring t popFront of e = remove-low t (e .0) 0 (omega passed-tests)
+row-moves vector t popFront of e = let z : _≡_ {A = ℕ} 0 1 = cc in absurd (omega arith)
+row-moves ring t (insert i x) of e = sym (ap (λ o. o .moves) (done-is ring t (insert i x) (e .0) (e .1))) ∙ insert-moves t (e .0) i x (omega passed-tests) (omega passed-tests)
+row-moves vector t (insert i x) of e = insert-high vector t (e .0) i (omega passed-tests) (omega passed-tests)
+row-moves ring t (remove i) of e = sym (ap (λ o. o .moves) (done-is ring t (remove i) (e .0) (e .1))) ∙ remove-moves t (e .0) i (omega passed-tests)
+row-moves vector t (remove i) of e = remove-high vector t (e .0) i (omega passed-tests)
+row-moves k t (swapRemove i) of e = rw (same-place k (cap t) (t .head)) (swap-moves k t (e .0) i (omega passed-tests))
+row-moves k t (write i x) of e = rw (same-place k (cap t) (t .head)) (moved-replaced _ i (t .len))
+row-moves k t (truncate m) of e = rw (same-place k (cap t) (t .head)) (moved-kept _ m (t .len))
+row-moves k t (resize m x) of e = rw (same-place k (cap t) (t .head)) (moved-kept _ m (t .len))
+row-moves k t clear of e = moved-none _ _ (t .len)
+row-moves k t (extend s) of e = rw (same-place k (cap t) (t .head)) (moved-stay _ (t .len))
+row-moves k t (look q) of e = rw (same-place k (cap t) (t .head)) (moved-stay _ (t .len))
+
+-- A call that its kind has, on any container.
+pub moves-of : (k : Kind) (call : Call) (t : Tray) → has call k ≡ true → does k call t .moves ≡ ifDone (does k call t .number) (movesIn k (t .len) call) 0
+unfolding does
+moves-of k call t of =
+    either (λ (o : Outcome). o .moves ≡ ifDone (o .number) (movesIn k (t .len) call) 0) (refused t (rowOf k call t .given)) (refusalsOf k call t)
+    (done k t (after call (list k t)) (rowOf k call t))
+    (λ r. sym (if-refused r (movesIn k (t .len) call) 0))
+    (row-moves k t call of)
+
+-- A call on two moves nothing in the first, and a making nothing at all.
+pub moves-of2 : (k k2 : Kind) (call : Call2) (t t2 : Tray) → does2 k k2 call t t2 .moves ≡ 0
+unfolding does2
+moves-of2 k k2 call t t2 =
+    either (λ (o : Outcome2). o .moves ≡ 0) (refused2 t t2 (rowOf2 k k2 call t t2 .given)) (refusalsOf2 k k2 call t t2)
+    (done2 k k2 t t2 (after2 call (list k t) (list k2 t2)) (rowOf2 k k2 call t t2))
+    (λ r. refl)
+    (λ none. go call)
+  where
+    go : (call : Call2) → moved (place k (cap t) (t .head)) (place k (cap t) (t .head)) (rowOf2 k k2 call t t2 .carry) (t .len) ≡ 0
+    go append = moved-stay _ (t .len)
+    go (splitOff at) = moved-kept _ at (t .len)
+    go clone = moved-stay _ (t .len)
+    go (fromIter u) = moved-stay _ (t .len)
+    go same = moved-stay _ (t .len)
+    go equal = moved-stay _ (t .len)
+
+pub moves-made : (k : Kind) (m : Making) (slots : List ℕ) → made k m slots .moves ≡ 0
+unfolding made moved tally
+moves-made k m slots =
+    either (λ (o : Outcome). o .moves ≡ 0) (refused (bare slots) nowhere) (refusalsMade m slots) (done k (bare slots) (begins m) (makes (length slots) m))
+    (λ r. refl)
+    (λ none. refl)

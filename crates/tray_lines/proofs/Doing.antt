@@ -1,0 +1,126 @@
+-- What an operation does to its container and the other, and what a call then does to the four: each is the table's own.
+use mathlib.Core.Path.{_≡_, sym, ap, _∙_}
+use mathlib.Core.Bool.{Bool, true, false}
+use mathlib.Core.List.{List, [], _∷_}
+use Prim.Native.Nat.{ℕ}
+use Rattle.slots.specs.Layout.{Kind, ring, vector}
+use Rattle.table.specs.Tray.{Tray}
+use Rattle.table.specs.Calls as table
+use Rattle.table.specs.Calls.{new}
+use Rattle.table.specs.Does.{Outcome2, does, does2, made}
+use Rattle.table.specs.World.{World}
+use Rattle.ring.specs.Seen as rings
+use Rattle.vector.specs.Seen as vectors
+use Rattle.ring.specs.declared.Answer as ringAnswers
+use Rattle.vector.specs.declared.Answer as vectorAnswers
+use Rattle.pairs.specs.Rings as ringPairs
+use Rattle.pairs.specs.Vectors as vectorPairs
+use Rattle.pairs.specs.declared.rings.Both as ringPair
+use Rattle.pairs.specs.declared.vectors.Both as vectorPair
+use Rattle.tray_lines.specs.declared.lines.RingOp.{RingOp}
+use Rattle.tray_lines.specs.declared.lines.VectorOp.{VectorOp}
+use Rattle.tray_lines.specs.declared.lines.Call.{Call}
+use Rattle.tray_lines.specs.declared.acts.HeldRing.{HeldRing}
+use Rattle.tray_lines.specs.declared.acts.HeldVector.{HeldVector}
+use Rattle.tray_lines.specs.declared.acts.RingDid.{RingDid}
+use Rattle.tray_lines.specs.declared.acts.VectorDid.{VectorDid}
+use Rattle.tray_lines.specs.declared.acts.Trays.{Trays}
+use Rattle.tray_lines.specs.declared.acts.Answer.{Answer}
+use Rattle.tray_lines.specs.Acts.{Act, one, two, ringAct, vectorAct, beside, actDoes, eventAt, reports, Acts, actsAs, acts, free, begun}
+use Rattle.tray_lines.specs.Seen.{ringHere, vectorHere, world, ringsSeen, vectorsSeen, oneRing, oneVector, twoRings, twoVectors, ringAnswer, vectorAnswer}
+
+-- an operation on one container: `op` is known to be `is`
+pub ring-one : (op is : RingOp) (call : table.Call) (t : Tray) (a : ringAnswers.Answer) (s : List ℕ) (other : HeldRing) (d : RingDid)
+    → op ≡ is → ringAct is ≡ one call → rings.seen a s ≡ does ring call t → d ≡ oneRing a s other
+    → ringsSeen d ≡ actDoes ring (ringAct op) t (ringHere other .tray)
+ring-one op is call t a s other d eo ec ea ed =
+    ap ringsSeen ed ∙ ap (λ o. beside o (ringHere other .tray)) ea ∙ sym (ap (λ (x : Act). actDoes ring x t (ringHere other .tray)) (ap ringAct eo ∙ ec))
+
+pub vector-one : (op is : VectorOp) (call : table.Call) (t : Tray) (a : vectorAnswers.Answer) (s : List ℕ) (other : HeldVector) (d : VectorDid)
+    → op ≡ is → vectorAct is ≡ one call → vectors.seen a s ≡ does vector call t → d ≡ oneVector a s other
+    → vectorsSeen d ≡ actDoes vector (vectorAct op) t (vectorHere other .tray)
+vector-one op is call t a s other d eo ec ea ed =
+    ap vectorsSeen ed ∙ ap (λ o. beside o (vectorHere other .tray)) ea ∙ sym (ap (λ (x : Act). actDoes vector x t (vectorHere other .tray)) (ap vectorAct eo ∙ ec))
+
+-- and one on two
+pub ring-two : (op is : RingOp) (call : table.Call2) (t t2 : Tray) (a : ringPair.Both) (s s2 : List ℕ) (d : RingDid)
+    → op ≡ is → ringAct is ≡ two call → ringPairs.seen2 a s s2 ≡ does2 ring ring call t t2 → d ≡ twoRings a s s2
+    → ringsSeen d ≡ actDoes ring (ringAct op) t t2
+ring-two op is call t t2 a s s2 d eo ec ea ed = ap ringsSeen ed ∙ ea ∙ sym (ap (λ (x : Act). actDoes ring x t t2) (ap ringAct eo ∙ ec))
+
+pub vector-two : (op is : VectorOp) (call : table.Call2) (t t2 : Tray) (a : vectorPair.Both) (s s2 : List ℕ) (d : VectorDid)
+    → op ≡ is → vectorAct is ≡ two call → vectorPairs.seen2 a s s2 ≡ does2 vector vector call t t2 → d ≡ twoVectors a s s2
+    → vectorsSeen d ≡ actDoes vector (vectorAct op) t t2
+vector-two op is call t t2 a s s2 d eo ec ea ed = ap vectorsSeen ed ∙ ea ∙ sym (ap (λ (x : Act). actDoes vector x t t2) (ap vectorAct eo ∙ ec))
+
+-- two rings and two vectors
+abbrev pub four : (t0 t1 t2 t3 : Tray) → World
+four t0 t1 t2 t3 =
+    record { kind = ring; tray = t0 }
+    ∷ record { kind = ring; tray = t1 }
+    ∷ record { kind = vector; tray = t2 }
+    ∷ record { kind = vector; tray = t3 }
+    ∷ []
+
+abbrev pub leaving : Kind → World → Outcome2 → Acts
+leaving k w o = record { world = w; answer = reports (o .number) (o .value) (o .moves) (record { kind = k; tray = o .first }) }
+
+-- what is done to two of the four is the event on them, whichever two of a kind they are
+module _ (t0 t1 t2 t3 : Tray) (o : Outcome2) where
+  pub on-0 : (a : Act) → o ≡ actDoes ring a t0 t1
+      → leaving ring (four (o .first) (o .second) t2 t3) o ≡ actsAs (four t0 t1 t2 t3) (eventAt (four t0 t1 t2 t3) 0 1 a) 0
+  on-0 (one call) e = ap (λ (o : Outcome2). leaving ring (four (o .first) (o .second) t2 t3) o) e
+  on-0 (two call) e = ap (λ (o : Outcome2). leaving ring (four (o .first) (o .second) t2 t3) o) e
+
+  pub on-1 : (a : Act) → o ≡ actDoes ring a t1 t0
+      → leaving ring (four (o .second) (o .first) t2 t3) o ≡ actsAs (four t0 t1 t2 t3) (eventAt (four t0 t1 t2 t3) 1 0 a) 1
+  on-1 (one call) e = ap (λ (o : Outcome2). leaving ring (four (o .second) (o .first) t2 t3) o) e
+  on-1 (two call) e = ap (λ (o : Outcome2). leaving ring (four (o .second) (o .first) t2 t3) o) e
+
+  pub on-2 : (a : Act) → o ≡ actDoes vector a t2 t3
+      → leaving vector (four t0 t1 (o .first) (o .second)) o ≡ actsAs (four t0 t1 t2 t3) (eventAt (four t0 t1 t2 t3) 2 3 a) 2
+  on-2 (one call) e = ap (λ (o : Outcome2). leaving vector (four t0 t1 (o .first) (o .second)) o) e
+  on-2 (two call) e = ap (λ (o : Outcome2). leaving vector (four t0 t1 (o .first) (o .second)) o) e
+
+  pub on-3 : (a : Act) → o ≡ actDoes vector a t3 t2
+      → leaving vector (four t0 t1 (o .second) (o .first)) o ≡ actsAs (four t0 t1 t2 t3) (eventAt (four t0 t1 t2 t3) 3 2 a) 3
+  on-3 (one call) e = ap (λ (o : Outcome2). leaving vector (four t0 t1 (o .second) (o .first)) o) e
+  on-3 (two call) e = ap (λ (o : Outcome2). leaving vector (four t0 t1 (o .second) (o .first)) o) e
+
+-- the containers and the answer that the code has once the operation is done
+module _ (t : Trays) where
+  pub ring-second : (op : RingOp) (second : Bool) (d : RingDid) (x : Answer) → second ≡ true
+      → ringsSeen d ≡ actDoes ring (ringAct op) (ringHere (t .ring1) .tray) (ringHere (t .ring0) .tray) → x ≡ ringAnswer d
+      → _≡_ {A = Acts} (record { world = ringHere (d .other) ∷ ringHere (d .me) ∷ vectorHere (t .vector2) ∷ vectorHere (t .vector3) ∷ []; answer = x }) (acts (world t) (Call.Ring second op))
+  unfolding acts
+  ring-second op second d x es ed ex = rw (es, ex) (on-1 _ _ _ _ (ringsSeen d) (ringAct op) ed)
+
+  pub ring-first : (op : RingOp) (second : Bool) (d : RingDid) (x : Answer) → second ≡ false
+      → ringsSeen d ≡ actDoes ring (ringAct op) (ringHere (t .ring0) .tray) (ringHere (t .ring1) .tray) → x ≡ ringAnswer d
+      → _≡_ {A = Acts} (record { world = ringHere (d .me) ∷ ringHere (d .other) ∷ vectorHere (t .vector2) ∷ vectorHere (t .vector3) ∷ []; answer = x }) (acts (world t) (Call.Ring second op))
+  unfolding acts
+  ring-first op second d x es ed ex = rw (es, ex) (on-0 _ _ _ _ (ringsSeen d) (ringAct op) ed)
+
+  pub vector-second : (op : VectorOp) (second : Bool) (d : VectorDid) (x : Answer) → second ≡ true
+      → vectorsSeen d ≡ actDoes vector (vectorAct op) (vectorHere (t .vector3) .tray) (vectorHere (t .vector2) .tray) → x ≡ vectorAnswer d
+      → _≡_ {A = Acts} (record { world = ringHere (t .ring0) ∷ ringHere (t .ring1) ∷ vectorHere (d .other) ∷ vectorHere (d .me) ∷ []; answer = x }) (acts (world t) (Call.Vector second op))
+  unfolding acts
+  vector-second op second d x es ed ex = rw (es, ex) (on-3 _ _ _ _ (vectorsSeen d) (vectorAct op) ed)
+
+  pub vector-first : (op : VectorOp) (second : Bool) (d : VectorDid) (x : Answer) → second ≡ false
+      → vectorsSeen d ≡ actDoes vector (vectorAct op) (vectorHere (t .vector2) .tray) (vectorHere (t .vector3) .tray) → x ≡ vectorAnswer d
+      → _≡_ {A = Acts} (record { world = ringHere (t .ring0) ∷ ringHere (t .ring1) ∷ vectorHere (d .me) ∷ vectorHere (d .other) ∷ []; answer = x }) (acts (world t) (Call.Vector second op))
+  unfolding acts
+  vector-first op second d x es ed ex = rw (es, ex) (on-2 _ _ _ _ (vectorsSeen d) (vectorAct op) ed)
+
+-- the four makings
+pub four-made : (r0 r1 : HeldRing) (v2 v3 : HeldVector)
+    → ringHere r0 .tray ≡ made ring new free .tray → ringHere r1 .tray ≡ made ring new free .tray
+    → vectorHere v2 .tray ≡ made vector new free .tray → vectorHere v3 .tray ≡ made vector new free .tray
+    → ringHere r0 ∷ ringHere r1 ∷ vectorHere v2 ∷ vectorHere v3 ∷ [] ≡ begun
+unfolding begun
+four-made r0 r1 v2 v3 e0 e1 e2 e3 =
+    ap (λ x. four x (ringHere r1 .tray) (vectorHere v2 .tray) (vectorHere v3 .tray)) e0
+    ∙ ap (λ x. four (made ring new free .tray) x (vectorHere v2 .tray) (vectorHere v3 .tray)) e1
+    ∙ ap (λ x. four (made ring new free .tray) (made ring new free .tray) x (vectorHere v3 .tray)) e2
+    ∙ ap (λ x. four (made ring new free .tray) (made ring new free .tray) (made vector new free .tray) x) e3

@@ -1,0 +1,90 @@
+-- How the code's values are read: four containers with their slots are the table's world, and what was done to two of them is an outcome.
+use Prim.Native.Nat.{ℕ}
+use mathlib.Core.List.{List, [], _∷_}
+use Rattle.slots.specs.Layout.{ring, vector}
+use Rattle.table.specs.Tray.{nowhere}
+use Rattle.table.specs.Does.{Outcome2}
+use Rattle.table.specs.World.{Container, World}
+use Rattle.ring.specs.Seen as rings
+use Rattle.vector.specs.Seen as vectors
+use Rattle.ring.specs.declared.Answer as ringAnswers
+use Rattle.vector.specs.declared.Answer as vectorAnswers
+use Rattle.pairs.specs.declared.rings.Both as ringPair
+use Rattle.pairs.specs.declared.vectors.Both as vectorPair
+use Rattle.tray_lines.specs.declared.acts.HeldRing.{HeldRing}
+use Rattle.tray_lines.specs.declared.acts.HeldVector.{HeldVector}
+use Rattle.tray_lines.specs.declared.acts.RingDid.{RingDid}
+use Rattle.tray_lines.specs.declared.acts.VectorDid.{VectorDid}
+use Rattle.tray_lines.specs.declared.acts.Trays.{Trays}
+use Rattle.tray_lines.specs.declared.acts.Answer.{Answer}
+use Rattle.tray_lines.specs.declared.acts.Acted.{Acted}
+use Rattle.tray_lines.specs.Acts.{Acts}
+
+abbrev pub ringHere : HeldRing → Container
+ringHere h = record { kind = ring; tray = rings.tray (h .ring) (h .slots) }
+
+abbrev pub vectorHere : HeldVector → Container
+vectorHere h = record { kind = vector; tray = vectors.tray (h .vector) (h .slots) }
+
+-- rings 0 and 1, vectors 2 and 3
+abbrev pub world : Trays → World
+world t = ringHere (t .ring0) ∷ ringHere (t .ring1) ∷ vectorHere (t .vector2) ∷ vectorHere (t .vector3) ∷ []
+
+-- what was done to a container, and to the other of its kind
+abbrev pub ringsSeen : RingDid → Outcome2
+ringsSeen d = record {
+  number = d .number;
+  value = d .value;
+  moves = d .moves;
+  first = ringHere (d .me) .tray;
+  second = ringHere (d .other) .tray;
+  cursor = nowhere;
+}
+
+abbrev pub vectorsSeen : VectorDid → Outcome2
+vectorsSeen d = record {
+  number = d .number;
+  value = d .value;
+  moves = d .moves;
+  first = vectorHere (d .me) .tray;
+  second = vectorHere (d .other) .tray;
+  cursor = nowhere;
+}
+
+-- what the private functions `one_ring` and `one_vector` answer: the other container as it was
+abbrev pub oneRing : ringAnswers.Answer → (slots : List ℕ) → HeldRing → RingDid
+oneRing a slots other =
+    record { number = a .number; value = a .value; moves = a .moves; me = record { ring = a .ring; slots = slots }; other = other }
+
+abbrev pub oneVector : vectorAnswers.Answer → (slots : List ℕ) → HeldVector → VectorDid
+oneVector a slots other =
+    record { number = a .number; value = a .value; moves = a .moves; me = record { vector = a .vector; slots = slots }; other = other }
+
+-- what `two_rings` and `two_vectors` answer
+abbrev pub twoRings : ringPair.Both → (slots theirs : List ℕ) → RingDid
+twoRings a slots theirs = record {
+  number = a .number;
+  value = a .value;
+  moves = a .moves;
+  me = record { ring = a .first; slots = slots };
+  other = record { ring = a .second; slots = theirs };
+}
+
+abbrev pub twoVectors : vectorPair.Both → (slots theirs : List ℕ) → VectorDid
+twoVectors a slots theirs = record {
+  number = a .number;
+  value = a .value;
+  moves = a .moves;
+  me = record { vector = a .first; slots = slots };
+  other = record { vector = a .second; slots = theirs };
+}
+
+-- what `ring_answer` and `vector_answer` answer
+abbrev pub ringAnswer : RingDid → Answer
+ringAnswer d = record { number = d .number; value = d .value; moves = d .moves; head = d .me .ring .head; len = d .me .ring .len }
+
+abbrev pub vectorAnswer : VectorDid → Answer
+vectorAnswer d = record { number = d .number; value = d .value; moves = d .moves; head = 0; len = d .me .vector .len }
+
+abbrev pub actedSeen : Acted → Acts
+actedSeen a = record { world = world (a .trays); answer = a .answer }

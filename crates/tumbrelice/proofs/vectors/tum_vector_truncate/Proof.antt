@@ -1,0 +1,14 @@
+-- `tum_vector_truncate` meets its promise: what is heard of the call is what is seen of it.
+use borrow.Author.Needs.{needs}
+use Rattle.tumbrelice.proofs.Words.{fits, heard-is}
+use Rattle.tumbrelice.proofs.vectors.tum_vector_truncate.Statement.{statement}
+use Rattle.tumbrelice.proofs.vectors.tum_vector_truncate.Tie as tie
+
+pub tum-vector-truncate-spec : {M : Type 1} → statement M
+tum-vector-truncate-spec =
+    tie.close
+    (tie.spec
+    (λ c κs. search needs)
+    (λ c κs. search fits)
+    (λ c. search needs)
+    (λ c. search heard-is))

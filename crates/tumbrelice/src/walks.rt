@@ -1,0 +1,47 @@
+// A cursor over a ring: its front, then its back.
+use super::word;
+use cursors::Cursor;
+use cursors::Step;
+use ring::Ring;
+ghost use mathlib.Core.Path.{_≡_};
+ghost use Rattle.slots.specs.Layout.{ring};
+ghost use Rattle.table.specs.Calls.{look, stepFront};
+ghost use Rattle.table.specs.Does.{does};
+ghost use Rattle.tumbrelice.specs.Heard.{heardAt, ringOf, cursorOf};
+
+#[no_mangle]
+pub extern "C" fn tum_ring_step_front(
+    slots: &[u32],
+    state: &[usize; 2],
+    cursor: &mut [usize; 2],
+) -> u64
+    ensures { λ r. ⌜ heardAt r (ringOf (now (state .entry)) (now (slots .entry))) (cursorOf (now (cursor .exit))) ≡ does ring (look (stepFront (cursorOf (now (cursor .entry))))) (ringOf (now (state .entry)) (now (slots .entry))) ⌝ }
+{
+    let r = Ring {
+        head: state[0],
+        len: state[1],
+    };
+    let u = Cursor {
+        front: cursor[0],
+        back: cursor[1],
+    };
+    let s = u.ring_step_front(r, slots);
+    match s {
+        Step::Entry(x, v) => {
+            *cursor = [v.front, v.back];
+            word(0, x, 0)
+        }
+        Step::Invalid(v) => {
+            *cursor = [v.front, v.back];
+            word(1, 0, 0)
+        }
+        Step::Astray(v) => {
+            *cursor = [v.front, v.back];
+            word(3, 0, 0)
+        }
+        Step::Ended(v) => {
+            *cursor = [v.front, v.back];
+            word(4, 0, 0)
+        }
+    }
+}

@@ -5,10 +5,9 @@ use mathlib.Core.Path.{_≡_, refl, sym, ap, _∙_}
 use mathlib.Core.List.{List}
 use contract.Lifetimes.{Lfts}
 use denote.Ref.{now}
-use denote.Triple.Clauses.{AtExit}
-use borrow.Fn.World.{ArgsD, ResD}
 use Rattle.table.specs.Tray.{Tray, Cursor}
 use Rattle.table.specs.Does.{Outcome, Outcome2}
+use Rattle.table.proofs.Theorems.Unique.{Twice}
 use Rattle.cursors.specs.declared.Cursor as code
 use Rattle.cursors.specs.declared.Begun.{Begun}
 use Rattle.cursors.specs.declared.Taken.{Taken}
@@ -50,59 +49,45 @@ one-into o r r′ t t′ s2 s2′ p q = (
 
 -- In what follows a are the arguments, r and r′ are results, and e and e′ the arguments as they are at the return.
 module _ (κs : Lfts 1) where
-  pub ring-iter-once : (a : ArgsD fn.ring_iter.signature κs) (r r′ : ResD fn.ring_iter.signature κs) (e e′ : AtExit fn.ring_iter.ended κs)
-      → fn.ring_iter.Reads.Learnt κs a r e → fn.ring_iter.Reads.Learnt κs a r′ e′ → r ≡ r′
+  pub ring-iter-once : Twice fn.ring_iter.ended κs (fn.ring_iter.Reads.Learnt κs) (λ r e r′ e′. r ≡ r′)
   ring-iter-once a r r′ e e′ p q = one-begun _ r r′ _ _ p q
 
-  pub ring-into-iter-once : (a : ArgsD fn.ring_into_iter.signature κs) (r r′ : ResD fn.ring_into_iter.signature κs) (e e′ : AtExit fn.ring_into_iter.ended κs)
-      → fn.ring_into_iter.Reads.Learnt κs a r e → fn.ring_into_iter.Reads.Learnt κs a r′ e′ → r ≡ r′
+  pub ring-into-iter-once : Twice fn.ring_into_iter.ended κs (fn.ring_into_iter.Reads.Learnt κs) (λ r e r′ e′. r ≡ r′)
   ring-into-iter-once a r r′ e e′ p q = one-begun _ r r′ _ _ p q
 
-  pub ring-step-front-once : (a : ArgsD fn.ring_step_front.signature κs) (r r′ : ResD fn.ring_step_front.signature κs) (e e′ : AtExit fn.ring_step_front.ended κs)
-      → fn.ring_step_front.Reads.Learnt κs a r e → fn.ring_step_front.Reads.Learnt κs a r′ e′ → r ≡ r′
+  pub ring-step-front-once : Twice fn.ring_step_front.ended κs (fn.ring_step_front.Reads.Learnt κs) (λ r e r′ e′. r ≡ r′)
   ring-step-front-once a r r′ e e′ p q = one _ r r′ _ _ p q
 
-  pub ring-step-back-once : (a : ArgsD fn.ring_step_back.signature κs) (r r′ : ResD fn.ring_step_back.signature κs) (e e′ : AtExit fn.ring_step_back.ended κs)
-      → fn.ring_step_back.Reads.Learnt κs a r e → fn.ring_step_back.Reads.Learnt κs a r′ e′ → r ≡ r′
+  pub ring-step-back-once : Twice fn.ring_step_back.ended κs (fn.ring_step_back.Reads.Learnt κs) (λ r e r′ e′. r ≡ r′)
   ring-step-back-once a r r′ e e′ p q = one _ r r′ _ _ p q
 
-  pub ring-peek-front-once : (a : ArgsD fn.ring_peek_front.signature κs) (r r′ : ResD fn.ring_peek_front.signature κs) (e e′ : AtExit fn.ring_peek_front.ended κs)
-      → fn.ring_peek_front.Reads.Learnt κs a r e → fn.ring_peek_front.Reads.Learnt κs a r′ e′ → r ≡ r′
+  pub ring-peek-front-once : Twice fn.ring_peek_front.ended κs (fn.ring_peek_front.Reads.Learnt κs) (λ r e r′ e′. r ≡ r′)
   ring-peek-front-once a r r′ e e′ p q = one _ r r′ _ _ p q
 
-  pub ring-peek-back-once : (a : ArgsD fn.ring_peek_back.signature κs) (r r′ : ResD fn.ring_peek_back.signature κs) (e e′ : AtExit fn.ring_peek_back.ended κs)
-      → fn.ring_peek_back.Reads.Learnt κs a r e → fn.ring_peek_back.Reads.Learnt κs a r′ e′ → r ≡ r′
+  pub ring-peek-back-once : Twice fn.ring_peek_back.ended κs (fn.ring_peek_back.Reads.Learnt κs) (λ r e r′ e′. r ≡ r′)
   ring-peek-back-once a r r′ e e′ p q = one _ r r′ _ _ p q
 
-  pub vector-iter-once : (a : ArgsD fn.vector_iter.signature κs) (r r′ : ResD fn.vector_iter.signature κs) (e e′ : AtExit fn.vector_iter.ended κs)
-      → fn.vector_iter.Reads.Learnt κs a r e → fn.vector_iter.Reads.Learnt κs a r′ e′ → r ≡ r′
+  pub vector-iter-once : Twice fn.vector_iter.ended κs (fn.vector_iter.Reads.Learnt κs) (λ r e r′ e′. r ≡ r′)
   vector-iter-once a r r′ e e′ p q = one-begun _ r r′ _ _ p q
 
-  pub vector-into-iter-once : (a : ArgsD fn.vector_into_iter.signature κs) (r r′ : ResD fn.vector_into_iter.signature κs) (e e′ : AtExit fn.vector_into_iter.ended κs)
-      → fn.vector_into_iter.Reads.Learnt κs a r e → fn.vector_into_iter.Reads.Learnt κs a r′ e′ → r ≡ r′
+  pub vector-into-iter-once : Twice fn.vector_into_iter.ended κs (fn.vector_into_iter.Reads.Learnt κs) (λ r e r′ e′. r ≡ r′)
   vector-into-iter-once a r r′ e e′ p q = one-begun _ r r′ _ _ p q
 
-  pub vector-step-front-once : (a : ArgsD fn.vector_step_front.signature κs) (r r′ : ResD fn.vector_step_front.signature κs) (e e′ : AtExit fn.vector_step_front.ended κs)
-      → fn.vector_step_front.Reads.Learnt κs a r e → fn.vector_step_front.Reads.Learnt κs a r′ e′ → r ≡ r′
+  pub vector-step-front-once : Twice fn.vector_step_front.ended κs (fn.vector_step_front.Reads.Learnt κs) (λ r e r′ e′. r ≡ r′)
   vector-step-front-once a r r′ e e′ p q = one _ r r′ _ _ p q
 
-  pub vector-step-back-once : (a : ArgsD fn.vector_step_back.signature κs) (r r′ : ResD fn.vector_step_back.signature κs) (e e′ : AtExit fn.vector_step_back.ended κs)
-      → fn.vector_step_back.Reads.Learnt κs a r e → fn.vector_step_back.Reads.Learnt κs a r′ e′ → r ≡ r′
+  pub vector-step-back-once : Twice fn.vector_step_back.ended κs (fn.vector_step_back.Reads.Learnt κs) (λ r e r′ e′. r ≡ r′)
   vector-step-back-once a r r′ e e′ p q = one _ r r′ _ _ p q
 
-  pub vector-peek-front-once : (a : ArgsD fn.vector_peek_front.signature κs) (r r′ : ResD fn.vector_peek_front.signature κs) (e e′ : AtExit fn.vector_peek_front.ended κs)
-      → fn.vector_peek_front.Reads.Learnt κs a r e → fn.vector_peek_front.Reads.Learnt κs a r′ e′ → r ≡ r′
+  pub vector-peek-front-once : Twice fn.vector_peek_front.ended κs (fn.vector_peek_front.Reads.Learnt κs) (λ r e r′ e′. r ≡ r′)
   vector-peek-front-once a r r′ e e′ p q = one _ r r′ _ _ p q
 
-  pub vector-peek-back-once : (a : ArgsD fn.vector_peek_back.signature κs) (r r′ : ResD fn.vector_peek_back.signature κs) (e e′ : AtExit fn.vector_peek_back.ended κs)
-      → fn.vector_peek_back.Reads.Learnt κs a r e → fn.vector_peek_back.Reads.Learnt κs a r′ e′ → r ≡ r′
+  pub vector-peek-back-once : Twice fn.vector_peek_back.ended κs (fn.vector_peek_back.Reads.Learnt κs) (λ r e r′ e′. r ≡ r′)
   vector-peek-back-once a r r′ e e′ p q = one _ r r′ _ _ p q
 
 module _ (κs : Lfts 2) where
-  pub ring-from-iter-once : (a : ArgsD fn.ring_from_iter.signature κs) (r r′ : ResD fn.ring_from_iter.signature κs) (e e′ : AtExit fn.ring_from_iter.ended κs)
-      → fn.ring_from_iter.Reads.Learnt κs a r e → fn.ring_from_iter.Reads.Learnt κs a r′ e′ → (r ≡ r′) × (now (e .1 .1 .1 .1 .0) ≡ now (e′ .1 .1 .1 .1 .0))
+  pub ring-from-iter-once : Twice fn.ring_from_iter.ended κs (fn.ring_from_iter.Reads.Learnt κs) (λ r e r′ e′. (r ≡ r′) × (now (e .1 .1 .1 .1 .0) ≡ now (e′ .1 .1 .1 .1 .0)))
   ring-from-iter-once a r r′ e e′ p q = one-into _ r r′ _ _ _ _ p q
 
-  pub vector-from-iter-once : (a : ArgsD fn.vector_from_iter.signature κs) (r r′ : ResD fn.vector_from_iter.signature κs) (e e′ : AtExit fn.vector_from_iter.ended κs)
-      → fn.vector_from_iter.Reads.Learnt κs a r e → fn.vector_from_iter.Reads.Learnt κs a r′ e′ → (r ≡ r′) × (now (e .1 .1 .1 .1 .0) ≡ now (e′ .1 .1 .1 .1 .0))
+  pub vector-from-iter-once : Twice fn.vector_from_iter.ended κs (fn.vector_from_iter.Reads.Learnt κs) (λ r e r′ e′. (r ≡ r′) × (now (e .1 .1 .1 .1 .0) ≡ now (e′ .1 .1 .1 .1 .0)))
   vector-from-iter-once a r r′ e e′ p q = one-into _ r r′ _ _ _ _ p q

@@ -2,15 +2,16 @@
 use mathlib.Core.Path.{_≡_, ap}
 use mathlib.Core.List.{List}
 use Prim.Native.Nat.{ℕ}
-use Rattle.slots.specs.Layout.{Kind}
 use Rattle.table.specs.Tray.{Tray, nowhere}
-use Rattle.table.specs.Does.{refused, refused2, headIn}
+use Rattle.table.specs.Does.{refused, refused2}
 use Rattle.table.proofs.Laws.Stops.{stops}
 use Rattle.table.proofs.Laws.Refusals
 use Rattle.table.proofs.Laws.Looks.{shows}
 use Rattle.table.proofs.Laws.Done2.{fills}
 use Rattle.vector.specs.declared.Vector.{Vector}
-use Rattle.vector.specs.Seen.{tray}
+use Rattle.vector.specs.Seen.{tray, state}
+use Rattle.ring.proofs.Told as rings
+use Rattle.vector.proofs.Told as vectors
 use Rattle.cursors.specs.declared.Cursor.{Cursor}
 use Rattle.cursors.specs.declared.Begun.{Begun}
 use Rattle.cursors.specs.declared.Taken.{Taken}
@@ -19,18 +20,17 @@ use Rattle.cursors.specs.Seen.{cursor, seenBegun, beginning, seenInto, t
 pub stopped : (t : Tray) (a : Begun) (m : ℕ) → a ≡ beginning m 0 → seenBegun a t ≡ refused t nowhere m
 stopped t a m e = ap (λ a. seenBegun a t) e
 
-pub started : (k : Kind) (t : Tray) (a : Begun) (back : ℕ) → headIn k (t .head) ≡ t .head → a ≡ beginning 0 back
-    → seenBegun a t ≡ shows k t 0 (record { front = 0; back = back })
-started k t a back eh e = rw eh (ap (λ a. seenBegun a t) e)
+pub started : (t : Tray) (a : Begun) (back : ℕ) → a ≡ beginning 0 back → seenBegun a t ≡ shows t 0 (record { front = 0; back = back })
+started t a back e = ap (λ a. seenBegun a t) e
 
 pub answered : (u : Cursor) (v : Vector) (t : Tray) (s2 : List ℕ) (a : Taken) (m : ℕ) → a ≡ taking m u v
     → seenInto a t s2 ≡ refused2 t (tray v s2) (cursor u) m
 answered u v t s2 a m e = ap (λ a. seenInto a t s2) e
 
-pub told : (t : Tray) (s2 : List ℕ) (a : Taken) (n back : ℕ) → a ≡ taking 0 (record { front = back; back = back }) (record { len = n })
+pub told : (t : Tray) (s2 : List ℕ) (a : Taken) (v : Vector) (n back : ℕ) → a ≡ taking 0 (record { front = back; back = back }) v → v ≡ state n
     → seenInto a t s2 ≡ fills t n s2 back
-told t s2 a n back e = ap (λ a. seenInto a t s2) e
+told t s2 a v n back e ev = rw (e, ev)
 
 pub ruleset refusals = (stopped, answered, stops, Refusals.refusals)
 
-pub ruleset shown = (started, told, stops, Refusals.tests)
+pub ruleset shown = (started, told, rings.home, vectors.home, stops, Refusals.tests)

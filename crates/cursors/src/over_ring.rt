@@ -30,12 +30,7 @@ impl Cursor {
     pub fn ring_into_iter(over: Ring, slots: &[u32]) -> Begun
         ensures { λ r. ⌜ seenBegun r (tray over (now (slots .entry))) ≡ does ring (look intoIter) (tray over (now (slots .entry))) ⌝ }
     {
-        let head = over.head;
-        let back = over.len;
-        if table::invalid_ring(slots.len(), head, back) {
-            return began(1, 0);
-        }
-        began(0, back)
+        Cursor::ring_iter(over, slots)
     }
 
     pub fn ring_step_front(self, over: Ring, slots: &[u32]) -> Step
@@ -46,14 +41,11 @@ impl Cursor {
         let len = over.len;
         let front = self.front;
         let back = self.back;
-        if table::ring_rests(cap, head, len, front, back) {
+        if table::invalid_ring_or_no_step(cap, head, len, front, back) {
             if table::invalid_ring(cap, head, len) {
                 return Step::Invalid(self);
             }
-            if back < front {
-                return Step::Astray(self);
-            }
-            if len < back {
+            if table::astray(front, back, len) {
                 return Step::Astray(self);
             }
             return Step::Ended(self);
@@ -76,14 +68,11 @@ impl Cursor {
         let len = over.len;
         let front = self.front;
         let back = self.back;
-        if table::ring_rests(cap, head, len, front, back) {
+        if table::invalid_ring_or_no_step(cap, head, len, front, back) {
             if table::invalid_ring(cap, head, len) {
                 return Step::Invalid(self);
             }
-            if back < front {
-                return Step::Astray(self);
-            }
-            if len < back {
+            if table::astray(front, back, len) {
                 return Step::Astray(self);
             }
             return Step::Ended(self);
@@ -109,10 +98,7 @@ impl Cursor {
         }
         let front = self.front;
         let back = self.back;
-        if back < front {
-            return Step::Astray(self);
-        }
-        if len < back {
+        if table::astray(front, back, len) {
             return Step::Astray(self);
         }
         if back - front <= k {
@@ -133,10 +119,7 @@ impl Cursor {
         }
         let front = self.front;
         let back = self.back;
-        if back < front {
-            return Step::Astray(self);
-        }
-        if len < back {
+        if table::astray(front, back, len) {
             return Step::Astray(self);
         }
         if back - front <= k {
@@ -163,10 +146,7 @@ impl Cursor {
         }
         let front = self.front;
         let back = self.back;
-        if back < front {
-            return took(3, self, to);
-        }
-        if len < back {
+        if table::astray(front, back, len) {
             return took(3, self, to);
         }
         if held != 0 {
@@ -176,11 +156,11 @@ impl Cursor {
             return took(6, self, to);
         }
         if front == back {
-            return took(0, Cursor { front: back, back }, Vector { len: 0 });
+            return took(0, Cursor { front: back, back }, vector::state(0));
         }
         let count = back - front;
         let from = slots::slot(cap, head, front);
         runs::copy::carry(theirs, 0, 0, slots, from, count);
-        took(0, Cursor { front: back, back }, Vector { len: count })
+        took(0, Cursor { front: back, back }, vector::state(count))
     }
 }

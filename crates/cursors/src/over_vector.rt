@@ -27,11 +27,7 @@ impl Cursor {
     pub fn vector_into_iter(over: Vector, slots: &[u32]) -> Begun
         ensures { λ r. ⌜ seenBegun r (tray over (now (slots .entry))) ≡ does vector (look intoIter) (tray over (now (slots .entry))) ⌝ }
     {
-        let back = over.len;
-        if table::invalid_vector(slots.len(), back) {
-            return began(1, 0);
-        }
-        began(0, back)
+        Cursor::vector_iter(over, slots)
     }
 
     pub fn vector_step_front(self, over: Vector, slots: &[u32]) -> Step
@@ -41,14 +37,11 @@ impl Cursor {
         let len = over.len;
         let front = self.front;
         let back = self.back;
-        if table::vector_rests(cap, len, front, back) {
+        if table::invalid_vector_or_no_step(cap, len, front, back) {
             if table::invalid_vector(cap, len) {
                 return Step::Invalid(self);
             }
-            if back < front {
-                return Step::Astray(self);
-            }
-            if len < back {
+            if table::astray(front, back, len) {
                 return Step::Astray(self);
             }
             return Step::Ended(self);
@@ -70,14 +63,11 @@ impl Cursor {
         let len = over.len;
         let front = self.front;
         let back = self.back;
-        if table::vector_rests(cap, len, front, back) {
+        if table::invalid_vector_or_no_step(cap, len, front, back) {
             if table::invalid_vector(cap, len) {
                 return Step::Invalid(self);
             }
-            if back < front {
-                return Step::Astray(self);
-            }
-            if len < back {
+            if table::astray(front, back, len) {
                 return Step::Astray(self);
             }
             return Step::Ended(self);
@@ -102,10 +92,7 @@ impl Cursor {
         }
         let front = self.front;
         let back = self.back;
-        if back < front {
-            return Step::Astray(self);
-        }
-        if len < back {
+        if table::astray(front, back, len) {
             return Step::Astray(self);
         }
         if back - front <= k {
@@ -125,10 +112,7 @@ impl Cursor {
         }
         let front = self.front;
         let back = self.back;
-        if back < front {
-            return Step::Astray(self);
-        }
-        if len < back {
+        if table::astray(front, back, len) {
             return Step::Astray(self);
         }
         if back - front <= k {
@@ -160,10 +144,7 @@ impl Cursor {
         }
         let front = self.front;
         let back = self.back;
-        if back < front {
-            return took(3, self, to);
-        }
-        if len < back {
+        if table::astray(front, back, len) {
             return took(3, self, to);
         }
         if held != 0 {
@@ -174,6 +155,6 @@ impl Cursor {
         }
         let count = back - front;
         runs::copy::run_copy(theirs, 0, &slots[front..], count);
-        took(0, Cursor { front: back, back }, Vector { len: count })
+        took(0, Cursor { front: back, back }, vector::state(count))
     }
 }

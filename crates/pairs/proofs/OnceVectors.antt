@@ -5,39 +5,31 @@ use mathlib.Core.Path.{_≡_, refl}
 use mathlib.Core.List.{List}
 use contract.Lifetimes.{Lfts}
 use denote.Ref.{now}
-use denote.Triple.Clauses.{AtExit}
-use borrow.Fn.World.{ArgsD, ResD}
-use Rattle.table.specs.Does.{Outcome2}
-use Rattle.table.proofs.Theorems.Unique.{one-answer2}
+use Rattle.table.specs.Calls.{Call2}
+use Rattle.table.proofs.Theorems.Unique.{Twice, one-answer2}
+use Rattle.vector.specs.declared.Vector.{Vector}
+use Rattle.vector.specs.Seen.{state}
 use Rattle.pairs.specs.declared.vectors.Both.{Both}
-use Rattle.pairs.specs.Vectors.{seen2}
+use Rattle.pairs.specs.Vectors.{seen2, Meets}
 use Rattle.pairs.proofs.vectors as fn
 
--- every promise of `pairs::vectors` is of the form `seen2 r slots theirs ≡ o`
-one : (o : Outcome2) (r r′ : Both) (s s2 s′ s2′ : List ℕ) → seen2 r s s2 ≡ o → seen2 r′ s′ s2′ ≡ o → (r ≡ r′) × (s ≡ s′) × (s2 ≡ s2′)
-one =
-    one-answer2 seen2 (λ o. record {
-      number = o .number;
-      value = o .value;
-      moves = o .moves;
-      first = record { len = o .first .len };
-      second = record { len = o .second .len };
-    }) (λ r s s2. refl) (λ r s s2. refl) (λ r s s2. refl)
+-- every promise of `pairs::vectors` is `Meets`, and an answer is told by what is seen of it
+one : {call : Call2} {v w : Vector} {b b2 : List ℕ} (r r′ : Both) (s s2 s′ s2′ : List ℕ) → Meets call v b w b2 r s s2 → Meets call v b w b2 r′ s′ s2′
+    → (r ≡ r′) × (s ≡ s′) × (s2 ≡ s2′)
+one r r′ s s2 s′ s2′ p q =
+    one-answer2 seen2 (λ o. record { number = o .number; value = o .value; moves = o .moves; first = state (o .first .len); second = state (o .second .len) })
+    (λ r s s2. refl) (λ r s s2. refl) (λ r s s2. refl) _ r r′ s s2 s′ s2′ (p .row) (q .row)
 
 -- In what follows a are the arguments, r and r′ are results, and e and e′ the arguments as they are at the return.
 module _ (κs : Lfts 2) where
-  pub append-once : (a : ArgsD fn.append.signature κs) (r r′ : ResD fn.append.signature κs) (e e′ : AtExit fn.append.ended κs)
-      → fn.append.Reads.Learnt κs a r e → fn.append.Reads.Learnt κs a r′ e′ → (r ≡ r′) × (now (e .1 .0) ≡ now (e′ .1 .0)) × (now (e .1 .1 .1 .0) ≡ now (e′ .1 .1 .1 .0))
-  append-once a r r′ e e′ p q = one _ r r′ _ _ _ _ p q
+  pub append-once : Twice fn.append.ended κs (fn.append.Reads.Learnt κs) (λ r e r′ e′. (r ≡ r′) × (now (e .1 .0) ≡ now (e′ .1 .0)) × (now (e .1 .1 .1 .0) ≡ now (e′ .1 .1 .1 .0)))
+  append-once a r r′ e e′ p q = one r r′ _ _ _ _ p q
 
-  pub split-off-once : (a : ArgsD fn.split_off.signature κs) (r r′ : ResD fn.split_off.signature κs) (e e′ : AtExit fn.split_off.ended κs)
-      → fn.split_off.Reads.Learnt κs a r e → fn.split_off.Reads.Learnt κs a r′ e′ → (r ≡ r′) × (now (e .1 .0) ≡ now (e′ .1 .0)) × (now (e .1 .1 .1 .1 .0) ≡ now (e′ .1 .1 .1 .1 .0))
-  split-off-once a r r′ e e′ p q = one _ r r′ _ _ _ _ p q
+  pub split-off-once : Twice fn.split_off.ended κs (fn.split_off.Reads.Learnt κs) (λ r e r′ e′. (r ≡ r′) × (now (e .1 .0) ≡ now (e′ .1 .0)) × (now (e .1 .1 .1 .1 .0) ≡ now (e′ .1 .1 .1 .1 .0)))
+  split-off-once a r r′ e e′ p q = one r r′ _ _ _ _ p q
 
-  pub clone-once : (a : ArgsD fn.clone.signature κs) (r r′ : ResD fn.clone.signature κs) (e e′ : AtExit fn.clone.ended κs)
-      → fn.clone.Reads.Learnt κs a r e → fn.clone.Reads.Learnt κs a r′ e′ → (r ≡ r′) × (now (e .1 .1 .1 .0) ≡ now (e′ .1 .1 .1 .0))
-  clone-once a r r′ e e′ p q = let is = one _ r r′ _ _ _ _ p q in (is .0, is .2)
+  pub clone-once : Twice fn.clone.ended κs (fn.clone.Reads.Learnt κs) (λ r e r′ e′. (r ≡ r′) × (now (e .1 .1 .1 .0) ≡ now (e′ .1 .1 .1 .0)))
+  clone-once a r r′ e e′ p q = let is = one r r′ _ _ _ _ p q in (is .0, is .2)
 
-  pub equal-once : (a : ArgsD fn.equal.signature κs) (r r′ : ResD fn.equal.signature κs) (e e′ : AtExit fn.equal.ended κs)
-      → fn.equal.Reads.Learnt κs a r e → fn.equal.Reads.Learnt κs a r′ e′ → r ≡ r′
-  equal-once a r r′ e e′ p q = one _ r r′ _ _ _ _ p q .0
+  pub equal-once : Twice fn.equal.ended κs (fn.equal.Reads.Learnt κs) (λ r e r′ e′. r ≡ r′)
+  equal-once a r r′ e e′ p q = one r r′ _ _ _ _ p q .0

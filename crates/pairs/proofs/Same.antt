@@ -2,10 +2,9 @@
 -- length and all occupied slots agree, and else 0.
 use Prim.Native.Nat.{ℕ, _<_}
 use mathlib.Core.Path.{_≡_, refl, sym, ap, _∙_}
-use mathlib.Core.Bool.{Bool, true, false, cond, true≢false, false≢true}
-use mathlib.Core.List.{List, List-discrete}
+use mathlib.Core.Bool.{Bool, true, false, cond, true≢false}
+use mathlib.Core.List.{List}
 use mathlib.Core.Logic.{_⊎_, inl, inr}
-use native.Mathlib.Decide.{ℕ-discrete}
 use native.Mathlib.Omega.{arith}
 use borrow.Author.Tests.{eq-eqb, eqb-true}
 use lib.Dec.{eqb}
@@ -18,9 +17,8 @@ use Rattle.slots.specs.Layout.{ring, slotOf, posOf}
 use Rattle.slots.proofs.Placing.{entry, length-entries}
 use Rattle.table.specs.Tray.{Tray, cap, list, invalid}
 use Rattle.table.specs.Calls.{same}
-use Rattle.table.specs.Table.{equalLists}
 use Rattle.table.proofs.Laws.Valid.{fit, and-left, and-right}
-use Rattle.table.proofs.Laws.Equal.{tells-equal, alike}
+use Rattle.table.proofs.Laws.Equal.{equals, are-equal, alike}
 use Rattle.table.proofs.Theorems.Listed.{two-listed}
 use Rattle.table.proofs.Theorems.Upstream.{Says}
 use Rattle.table.proofs.Theorems.UpstreamTwo.{numbered2}
@@ -37,15 +35,6 @@ pub record Same (t t2 : Tray) : Type 0 where
   pub lens : t .len ≡ t2 .len
   pub occupied : (s : ℕ) → s < cap t → posOf (cap t) (t .head) s < t .len → getD (t .slots) s 0 ≡ getD (t2 .slots) s 0
 
-equal-lists : (l l2 : List ℕ) → l ≡ l2 → equalLists l l2 ≡ true
-equal-lists l l2 e = tells-equal true l l2 (record { yes = λ z. e; no = λ z. absurd (true≢false z) })
-
-lists-equal : (l l2 : List ℕ) → equalLists l l2 ≡ true → l ≡ l2
-lists-equal l l2 e = elim (List-discrete ℕ-discrete l l2) [
-  | yes q ↦ q
-  | no ne ↦ absurd (true≢false (sym e ∙ tells-equal false l l2 (record { yes = λ z. absurd (false≢true z); no = λ z. ne })))
-]
-
 module _ (t t2 : Tray) (ok : invalid ring t ≡ false) where
   -- position p of the second, where capacity, head and length agree
   second : cap t ≡ cap t2 → t .head ≡ t2 .head → t .len ≡ t2 .len → (p : ℕ) → p < t .len
@@ -60,7 +49,7 @@ module _ (t t2 : Tray) (ok : invalid ring t ≡ false) where
       let c = eqb-true (cap t) (cap t2) (and-left (eqb (cap t) (cap t2)) _ e) in
       let h = eqb-true (t .head) (t2 .head) (and-left (eqb (t .head) (t2 .head)) _ rest) in
       let n = eqb-true (t .len) (t2 .len) (and-left (eqb (t .len) (t2 .len)) _ last) in
-      let l = lists-equal (list ring t) (list ring t2) (and-right (eqb (t .len) (t2 .len)) _ last) in
+      let l = are-equal (list ring t) (list ring t2) (and-right (eqb (t .len) (t2 .len)) _ last) in
       record {
         caps = c;
         heads = h;
@@ -85,7 +74,7 @@ module _ (t t2 : Tray) (ok : invalid ring t ≡ false) where
       ∙ m .occupied (slotOf (cap t) (t .head) p) (placed .inside p small) (rw (placed .back p small) lt)
       ∙ sym (second (m .caps) (m .heads) (m .lens) p lt) in
       let lists = ext-getD 0 (list ring t) (list ring t2) (length-entries _ (t .len) (t .slots) ∙ m .lens ∙ sym (length-entries _ (t2 .len) (t2 .slots))) each in
-      rw (eq-eqb _ _ (m .caps), eq-eqb _ _ (m .heads), eq-eqb _ _ (m .lens)) (equal-lists (list ring t) (list ring t2) lists)
+      rw (eq-eqb _ _ (m .caps), eq-eqb _ _ (m .heads), eq-eqb _ _ (m .lens)) (equals (list ring t) (list ring t2) lists)
 
   decided : (b : Bool) → alike t t2 ≡ b → (value : ℕ) → value ≡ cond (alike t t2) 1 0 → Says value 1 (Same t t2) ⊎ Says value 0 (Same t t2 → ⊥)
   decided true e value is = inl (is ∙ rw e, alike-same e)
@@ -93,8 +82,8 @@ module _ (t t2 : Tray) (ok : invalid ring t ≡ false) where
 
 module _ (κs : Lfts 2) (v w : Ring) (s z : RefT (List ℕ)) (r : Both) (e : AtExit fn.same.ended κs) (learnt : fn.same.Reads.Learnt κs (v, (s, (w, (z, tt)))) r e) where
   pub same-answers : Valid v s → Valid w z → r .number ≡ 0
-  same-answers ok ok2 = numbered2 ring ring same _ _ _ learnt ok ok2
+  same-answers ok ok2 = numbered2 ring ring same _ _ _ (learnt .row) ok ok2
 
   pub same-value : Valid v s → Valid w z → Says (r .value) 1 (Same (tray v (now s)) (tray w (now z))) ⊎ Says (r .value) 0 (Same (tray v (now s)) (tray w (now z)) → ⊥)
   same-value ok ok2 =
-      decided (tray v (now s)) (tray w (now z)) ok _ refl (r .value) (two-listed ring ring same _ _ _ learnt (same-answers ok ok2) .value)
+      decided (tray v (now s)) (tray w (now z)) ok _ refl (r .value) (two-listed ring ring same _ _ _ (learnt .row) (same-answers ok ok2) .value)

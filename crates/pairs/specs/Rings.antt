@@ -1,8 +1,11 @@
--- How an answer of `pairs::rings` is read: two rings and their slots are two trays, an answer and both runs of slots are an outcome.
+-- How an answer of `pairs::rings` is read: two rings and their slots are two trays, an answer and both runs of slots are an outcome; and what a call promises.
 use Prim.Native.Nat.{ℕ}
+use mathlib.Core.Path.{_≡_}
 use mathlib.Core.List.{List}
+use Rattle.slots.specs.Layout.{ring}
 use Rattle.table.specs.Tray.{nowhere}
-use Rattle.table.specs.Does.{Outcome2}
+use Rattle.table.specs.Calls.{Call2}
+use Rattle.table.specs.Does.{Outcome2, does2}
 use Rattle.ring.specs.declared.Ring.{Ring}
 use Rattle.ring.specs.Seen.{tray}
 use Rattle.pairs.specs.declared.rings.Both.{Both}
@@ -17,9 +20,10 @@ seen2 a slots theirs = record {
   cursor = nowhere;
 }
 
--- what the private functions `refused` and `done` answer
-abbrev pub refusing : ℕ → (first second : Ring) → Both
-refusing number first second = record { number = number; value = 0; moves = 0; first = first; second = second }
+-- The promise of a call on the first, whose slots held s, and on T, whose slots held z: its answer a and what the slots hold afterwards are its row.
+pub record Meets (call : Call2) (first : Ring) (s : List ℕ) (second : Ring) (z : List ℕ) (a : Both) (s′ z′ : List ℕ) : Type 0 where
+  pub row : seen2 a s′ z′ ≡ does2 ring ring call (tray first s) (tray second z)
 
-abbrev pub giving : (value h n h2 n2 : ℕ) → Both
-giving value h n h2 n2 = record { number = 0; value = value; moves = 0; first = record { head = h; len = n }; second = record { head = h2; len = n2 } }
+-- what the function `says` puts together
+abbrev pub says : (number value : ℕ) → (first second : Ring) → Both
+says number value first second = record { number = number; value = value; moves = 0; first = first; second = second }

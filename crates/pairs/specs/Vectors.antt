@@ -1,8 +1,11 @@
--- How an answer of `pairs::vectors` is read: two vectors and their slots are two trays, an answer and both runs of slots are an outcome.
+-- How an answer of `pairs::vectors` is read: two vectors and their slots are two trays, an answer and both runs of slots are an outcome; and what a call promises.
 use Prim.Native.Nat.{ℕ}
+use mathlib.Core.Path.{_≡_}
 use mathlib.Core.List.{List}
+use Rattle.slots.specs.Layout.{vector}
 use Rattle.table.specs.Tray.{nowhere}
-use Rattle.table.specs.Does.{Outcome2}
+use Rattle.table.specs.Calls.{Call2}
+use Rattle.table.specs.Does.{Outcome2, does2}
 use Rattle.vector.specs.declared.Vector.{Vector}
 use Rattle.vector.specs.Seen.{tray}
 use Rattle.pairs.specs.declared.vectors.Both.{Both}
@@ -17,9 +20,10 @@ seen2 a slots theirs = record {
   cursor = nowhere;
 }
 
--- what the private functions `refused` and `done` answer
-abbrev pub refusing : ℕ → (first second : Vector) → Both
-refusing number first second = record { number = number; value = 0; moves = 0; first = first; second = second }
+-- The promise of a call on the first, whose slots held s, and on T, whose slots held z: its answer a and what the slots hold afterwards are its row.
+pub record Meets (call : Call2) (first : Vector) (s : List ℕ) (second : Vector) (z : List ℕ) (a : Both) (s′ z′ : List ℕ) : Type 0 where
+  pub row : seen2 a s′ z′ ≡ does2 vector vector call (tray first s) (tray second z)
 
-abbrev pub giving : (value n n2 : ℕ) → Both
-giving value n n2 = record { number = 0; value = value; moves = 0; first = record { len = n }; second = record { len = n2 } }
+-- what the function `says` puts together
+abbrev pub says : (number value : ℕ) → (first second : Vector) → Both
+says number value first second = record { number = number; value = value; moves = 0; first = first; second = second }

@@ -2,11 +2,9 @@
 // a return of its own: a ring on no slots has no slot to carry from or to.
 use ring::Ring;
 ghost use mathlib.Core.Path.{_≡_};
-ghost use Rattle.slots.specs.Layout.{ring};
 ghost use Rattle.table.specs.Calls.{append, splitOff, clone, same};
-ghost use Rattle.table.specs.Does.{does2};
-ghost use Rattle.ring.specs.Seen.{tray};
-ghost use Rattle.pairs.specs.Rings.{seen2, refusing, giving};
+ghost use Rattle.ring.specs.Seen.{state};
+ghost use Rattle.pairs.specs.Rings.{Meets, says};
 
 // The answer of a call on two: the container named first, and T.
 pub struct Both {
@@ -19,7 +17,7 @@ pub struct Both {
 
 // T's entries are joined to the first's, and T is emptied.
 pub fn append(first: Ring, slots: &mut [u32], second: Ring, theirs: &mut [u32]) -> Both
-    ensures { λ r. ⌜ seen2 r (now (slots .exit)) (now (theirs .exit)) ≡ does2 ring ring append (tray first (now (slots .entry))) (tray second (now (theirs .entry))) ⌝ }
+    ensures { λ r. ⌜ Meets append first (now (slots .entry)) second (now (theirs .entry)) r (now (slots .exit)) (now (theirs .exit)) ⌝ }
 {
     let cap = slots.len();
     let head = first.head;
@@ -36,11 +34,11 @@ pub fn append(first: Ring, slots: &mut [u32], second: Ring, theirs: &mut [u32]) 
         return refused(6, first, second);
     }
     if count == 0 {
-        return done(0, head, len, 0, 0);
+        return done(0, first, ring::state(0, 0));
     }
     runs::copy::carry(slots, head, len, theirs, from, count);
     runs::fill(theirs, from, 0, count, 0);
-    done(0, head, len + count, 0, 0)
+    parted(head, len + count, 0)
 }
 
 // The first keeps its entries before at, and T, which is empty, gets the others.
@@ -51,7 +49,7 @@ pub fn split_off(
     second: Ring,
     theirs: &mut [u32],
 ) -> Both
-    ensures { λ r. ⌜ seen2 r (now (slots .exit)) (now (theirs .exit)) ≡ does2 ring ring (splitOff at) (tray first (now (slots .entry))) (tray second (now (theirs .entry))) ⌝ }
+    ensures { λ r. ⌜ Meets (splitOff at) first (now (slots .entry)) second (now (theirs .entry)) r (now (slots .exit)) (now (theirs .exit)) ⌝ }
 {
     let cap = slots.len();
     let head = first.head;
@@ -74,17 +72,17 @@ pub fn split_off(
         return refused(6, first, second);
     }
     if len <= at {
-        return done(0, head, len, 0, 0);
+        return done(0, first, ring::state(0, 0));
     }
     let from = slots::slot(cap, head, at);
     runs::copy::carry(theirs, 0, 0, slots, from, len - at);
     runs::fill(slots, head, at, len, 0);
-    done(0, head, at, 0, len - at)
+    parted(head, at, len - at)
 }
 
 // T, which is empty, gets a copy of the entries.
 pub fn clone(first: Ring, slots: &[u32], second: Ring, theirs: &mut [u32]) -> Both
-    ensures { λ r. ⌜ seen2 r (now (slots .entry)) (now (theirs .exit)) ≡ does2 ring ring clone (tray first (now (slots .entry))) (tray second (now (theirs .entry))) ⌝ }
+    ensures { λ r. ⌜ Meets clone first (now (slots .entry)) second (now (theirs .entry)) r (now (slots .entry)) (now (theirs .exit)) ⌝ }
 {
     let head = first.head;
     let len = first.len;
@@ -103,15 +101,15 @@ pub fn clone(first: Ring, slots: &[u32], second: Ring, theirs: &mut [u32]) -> Bo
         return refused(6, first, second);
     }
     if len == 0 {
-        return done(0, head, len, 0, 0);
+        return done(0, first, ring::state(0, 0));
     }
     runs::copy::carry(theirs, 0, 0, slots, head, len);
-    done(0, head, len, 0, len)
+    done(0, first, ring::state(0, len))
 }
 
 // Whether capacity, head, length and all occupied slots agree.
 pub fn same(first: Ring, slots: &[u32], second: Ring, theirs: &[u32]) -> Both
-    ensures { λ r. ⌜ seen2 r (now (slots .entry)) (now (theirs .entry)) ≡ does2 ring ring same (tray first (now (slots .entry))) (tray second (now (theirs .entry))) ⌝ }
+    ensures { λ r. ⌜ Meets same first (now (slots .entry)) second (now (theirs .entry)) r (now (slots .entry)) (now (theirs .entry)) ⌝ }
 {
     let cap = slots.len();
     let head = first.head;
@@ -126,43 +124,50 @@ pub fn same(first: Ring, slots: &[u32], second: Ring, theirs: &[u32]) -> Both
         return refused(2, first, second);
     }
     if cap != room {
-        return done(0, head, len, from, count);
+        return done(0, first, second);
     }
     if head != from {
-        return done(0, head, len, from, count);
+        return done(0, first, second);
     }
     if len != count {
-        return done(0, head, len, from, count);
+        return done(0, first, second);
     }
     if runs::compare::rings(slots, theirs, head, len) {
-        return done(1, head, len, from, count);
+        return done(1, first, second);
     }
-    done(0, head, len, from, count)
+    done(0, first, second)
 }
 
-fn refused(number: u8, first: Ring, second: Ring) -> Both
-    ensures { λ r. ⌜ r ≡ refusing number first second ⌝ }
+// Every answer is put together here.
+fn says(number: u8, value: u32, first: Ring, second: Ring) -> Both
+    ensures { λ r. ⌜ r ≡ says number value first second ⌝ }
 {
     Both {
         number,
-        value: 0,
+        value,
         moves: 0,
         first,
         second,
     }
 }
 
-fn done(value: u32, head: usize, len: usize, head2: usize, len2: usize) -> Both
-    ensures { λ r. ⌜ r ≡ giving value head len head2 len2 ⌝ }
+// A refused call gives back the states that it got.
+fn refused(number: u8, first: Ring, second: Ring) -> Both
+    ensures { λ r. ⌜ r ≡ says number 0 first second ⌝ }
 {
-    Both {
-        number: 0,
-        value,
-        moves: 0,
-        first: Ring { head, len },
-        second: Ring {
-            head: head2,
-            len: len2,
-        },
-    }
+    says(number, 0, first, second)
+}
+
+// A call that is done, with the states afterwards.
+fn done(value: u32, first: Ring, second: Ring) -> Both
+    ensures { λ r. ⌜ r ≡ says 0 value first second ⌝ }
+{
+    says(0, value, first, second)
+}
+
+// A call that is done and has changed both: T's head is 0 afterwards.
+fn parted(head: usize, len: usize, len2: usize) -> Both
+    ensures { λ r. ⌜ r ≡ says 0 0 (state head len) (state 0 len2) ⌝ }
+{
+    done(0, ring::state(head, len), ring::state(0, len2))
 }

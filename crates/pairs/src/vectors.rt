@@ -1,11 +1,9 @@
 // Calls on two vectors. What is refused is refused before the first slot is written, and entries go over as one run of slots.
 use vector::Vector;
 ghost use mathlib.Core.Path.{_≡_};
-ghost use Rattle.slots.specs.Layout.{vector};
 ghost use Rattle.table.specs.Calls.{append, splitOff, clone, equal};
-ghost use Rattle.table.specs.Does.{does2};
-ghost use Rattle.vector.specs.Seen.{tray};
-ghost use Rattle.pairs.specs.Vectors.{seen2, refusing, giving};
+ghost use Rattle.vector.specs.Seen.{state};
+ghost use Rattle.pairs.specs.Vectors.{Meets, says};
 
 // The answer of a call on two: the container named first, and T.
 pub struct Both {
@@ -18,7 +16,7 @@ pub struct Both {
 
 // T's entries are joined to the first's, and T is emptied.
 pub fn append(first: Vector, slots: &mut [u32], second: Vector, theirs: &mut [u32]) -> Both
-    ensures { λ r. ⌜ seen2 r (now (slots .exit)) (now (theirs .exit)) ≡ does2 vector vector append (tray first (now (slots .entry))) (tray second (now (theirs .entry))) ⌝ }
+    ensures { λ r. ⌜ Meets append first (now (slots .entry)) second (now (theirs .entry)) r (now (slots .exit)) (now (theirs .exit)) ⌝ }
 {
     let cap = slots.len();
     let len = first.len;
@@ -34,7 +32,7 @@ pub fn append(first: Vector, slots: &mut [u32], second: Vector, theirs: &mut [u3
     }
     runs::copy::run_copy(slots, len, theirs, count);
     runs::run_fill(theirs, 0, count, 0);
-    done(0, len + count, 0)
+    parted(len + count, 0)
 }
 
 // The first keeps its entries before at, and T, which is empty, gets the others.
@@ -45,7 +43,7 @@ pub fn split_off(
     second: Vector,
     theirs: &mut [u32],
 ) -> Both
-    ensures { λ r. ⌜ seen2 r (now (slots .exit)) (now (theirs .exit)) ≡ does2 vector vector (splitOff at) (tray first (now (slots .entry))) (tray second (now (theirs .entry))) ⌝ }
+    ensures { λ r. ⌜ Meets (splitOff at) first (now (slots .entry)) second (now (theirs .entry)) r (now (slots .exit)) (now (theirs .exit)) ⌝ }
 {
     let len = first.len;
     if table::invalid_vector(slots.len(), len) {
@@ -67,12 +65,12 @@ pub fn split_off(
     }
     runs::copy::run_copy(theirs, 0, &slots[at..], len - at);
     runs::run_fill(slots, at, len, 0);
-    done(0, at, len - at)
+    parted(at, len - at)
 }
 
 // T, which is empty, gets a copy of the entries.
 pub fn clone(first: Vector, slots: &[u32], second: Vector, theirs: &mut [u32]) -> Both
-    ensures { λ r. ⌜ seen2 r (now (slots .entry)) (now (theirs .exit)) ≡ does2 vector vector clone (tray first (now (slots .entry))) (tray second (now (theirs .entry))) ⌝ }
+    ensures { λ r. ⌜ Meets clone first (now (slots .entry)) second (now (theirs .entry)) r (now (slots .entry)) (now (theirs .exit)) ⌝ }
 {
     let len = first.len;
     if table::invalid_vector(slots.len(), len) {
@@ -90,12 +88,12 @@ pub fn clone(first: Vector, slots: &[u32], second: Vector, theirs: &mut [u32]) -
         return refused(6, first, second);
     }
     runs::copy::run_copy(theirs, 0, slots, len);
-    done(0, len, len)
+    done(0, first, vector::state(len))
 }
 
 // Whether lengths and entries are equal.
 pub fn equal(first: Vector, slots: &[u32], second: Vector, theirs: &[u32]) -> Both
-    ensures { λ r. ⌜ seen2 r (now (slots .entry)) (now (theirs .entry)) ≡ does2 vector vector equal (tray first (now (slots .entry))) (tray second (now (theirs .entry))) ⌝ }
+    ensures { λ r. ⌜ Meets equal first (now (slots .entry)) second (now (theirs .entry)) r (now (slots .entry)) (now (theirs .entry)) ⌝ }
 {
     let len = first.len;
     if table::invalid_vector(slots.len(), len) {
@@ -106,31 +104,41 @@ pub fn equal(first: Vector, slots: &[u32], second: Vector, theirs: &[u32]) -> Bo
         return refused(2, first, second);
     }
     if runs::compare::parts(&slots[..len], &theirs[..count]) {
-        return done(1, len, count);
+        return done(1, first, second);
     }
-    done(0, len, count)
+    done(0, first, second)
 }
 
-fn refused(number: u8, first: Vector, second: Vector) -> Both
-    ensures { λ r. ⌜ r ≡ refusing number first second ⌝ }
+// Every answer is put together here.
+fn says(number: u8, value: u32, first: Vector, second: Vector) -> Both
+    ensures { λ r. ⌜ r ≡ says number value first second ⌝ }
 {
     Both {
         number,
-        value: 0,
+        value,
         moves: 0,
         first,
         second,
     }
 }
 
-fn done(value: u32, len: usize, len2: usize) -> Both
-    ensures { λ r. ⌜ r ≡ giving value len len2 ⌝ }
+// A refused call gives back the states that it got.
+fn refused(number: u8, first: Vector, second: Vector) -> Both
+    ensures { λ r. ⌜ r ≡ says number 0 first second ⌝ }
 {
-    Both {
-        number: 0,
-        value,
-        moves: 0,
-        first: Vector { len },
-        second: Vector { len: len2 },
-    }
+    says(number, 0, first, second)
+}
+
+// A call that is done, with the states afterwards.
+fn done(value: u32, first: Vector, second: Vector) -> Both
+    ensures { λ r. ⌜ r ≡ says 0 value first second ⌝ }
+{
+    says(0, value, first, second)
+}
+
+// A call that is done and has changed both.
+fn parted(len: usize, len2: usize) -> Both
+    ensures { λ r. ⌜ r ≡ says 0 0 (state len) (state len2) ⌝ }
+{
+    done(0, vector::state(len), vector::state(len2))
 }

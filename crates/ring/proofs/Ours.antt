@@ -17,61 +17,61 @@ use Rattle.ring.proofs.Ring as fn
 module _ (w : World) (κs : Lfts 1) where
   pub new-ours : (a : ArgsD fn.new.signature κs) (r : ResD fn.new.signature κs) (e : AtExit fn.new.ended κs)
       → fn.new.Reads.Learnt κs a r e → Ours w (make ring new (now (a .0)) (seen r (now (a .0))))
-  new-ours a r e learnt = ours-make w _ _ _ _ refl learnt
+  new-ours a r e learnt = ours-make w _ _ _ _ refl (learnt .row)
 
   pub with-capacity-ours : (a : ArgsD fn.with_capacity.signature κs) (r : ResD fn.with_capacity.signature κs) (e : AtExit fn.with_capacity.ended κs)
       → fn.with_capacity.Reads.Learnt κs a r e → Ours w (make ring (withCapacity (a .1 .0)) (now (a .0)) (seen r (now (a .0))))
-  with-capacity-ours a r e learnt = ours-make w _ _ _ _ refl learnt
+  with-capacity-ours a r e learnt = ours-make w _ _ _ _ refl (learnt .row)
 
 module _ (w : World) (i : ℕ) (κs : Lfts 1) where
   pub len-ours : (a : ArgsD fn.len.signature κs) (r : ResD fn.len.signature κs) (e : AtExit fn.len.ended κs)
       → Is w i ring (tray (a .0) (now (a .1 .0))) → fn.len.Reads.Learnt κs a r e → Ours w (on i (look len) (seen r (now (a .1 .0))))
-  len-ours a r e is learnt = ours-on w i _ _ _ _ refl is learnt
+  len-ours a r e is learnt = ours-on w i _ _ _ _ refl is (learnt .row)
 
   pub read-ours : (a : ArgsD fn.read.signature κs) (r : ResD fn.read.signature κs) (e : AtExit fn.read.ended κs)
       → Is w i ring (tray (a .0) (now (a .1 .0))) → fn.read.Reads.Learnt κs a r e → Ours w (on i (look (read (a .1 .1 .0))) (seen r (now (a .1 .0))))
-  read-ours a r e is learnt = ours-on w i _ _ _ _ refl is learnt
+  read-ours a r e is learnt = ours-on w i _ _ _ _ refl is (learnt .row)
 
   pub reserve-ours : (a : ArgsD fn.reserve.signature κs) (r : ResD fn.reserve.signature κs) (e : AtExit fn.reserve.ended κs)
       → Is w i ring (tray (a .0) (now (a .1 .0))) → fn.reserve.Reads.Learnt κs a r e → Ours w (on i (look (reserve (a .1 .1 .0))) (seen r (now (a .1 .0))))
-  reserve-ours a r e is learnt = ours-on w i _ _ _ _ refl is learnt
+  reserve-ours a r e is learnt = ours-on w i _ _ _ _ refl is (learnt .row)
 
   pub write-ours : (a : ArgsD fn.write.signature κs) (r : ResD fn.write.signature κs) (e : AtExit fn.write.ended κs)
       → Is w i ring (tray (a .0) (now (a .1 .0))) → fn.write.Reads.Learnt κs a r e → Ours w (on i (write (a .1 .1 .0) (a .1 .1 .1 .0)) (seen r (now (e .1 .0))))
-  write-ours a r e is learnt = ours-on w i _ _ _ _ refl is learnt
+  write-ours a r e is learnt = ours-on w i _ _ _ _ refl is (learnt .row)
 
   pub push-back-ours : (a : ArgsD fn.push_back.signature κs) (r : ResD fn.push_back.signature κs) (e : AtExit fn.push_back.ended κs)
       → Is w i ring (tray (a .0) (now (a .1 .0))) → fn.push_back.Reads.Learnt κs a r e → Ours w (on i (push (a .1 .1 .0)) (seen r (now (e .1 .0))))
-  push-back-ours a r e is learnt = ours-on w i _ _ _ _ refl is learnt
+  push-back-ours a r e is learnt = ours-on w i _ _ _ _ refl is (learnt .row)
 
   pub push-front-ours : (a : ArgsD fn.push_front.signature κs) (r : ResD fn.push_front.signature κs) (e : AtExit fn.push_front.ended κs)
       → Is w i ring (tray (a .0) (now (a .1 .0))) → fn.push_front.Reads.Learnt κs a r e → Ours w (on i (pushFront (a .1 .1 .0)) (seen r (now (e .1 .0))))
-  push-front-ours a r e is learnt = ours-on w i _ _ _ _ refl is learnt
+  push-front-ours a r e is learnt = ours-on w i _ _ _ _ refl is (learnt .row)
 
   pub pop-back-ours : (a : ArgsD fn.pop_back.signature κs) (r : ResD fn.pop_back.signature κs) (e : AtExit fn.pop_back.ended κs)
       → Is w i ring (tray (a .0) (now (a .1 .0))) → fn.pop_back.Reads.Learnt κs a r e → Ours w (on i pop (seen r (now (e .1 .0))))
-  pop-back-ours a r e is learnt = ours-on w i _ _ _ _ refl is learnt
+  pop-back-ours a r e is learnt = ours-on w i _ _ _ _ refl is (learnt .row)
 
   pub pop-front-ours : (a : ArgsD fn.pop_front.signature κs) (r : ResD fn.pop_front.signature κs) (e : AtExit fn.pop_front.ended κs)
       → Is w i ring (tray (a .0) (now (a .1 .0))) → fn.pop_front.Reads.Learnt κs a r e → Ours w (on i popFront (seen r (now (e .1 .0))))
-  pop-front-ours a r e is learnt = ours-on w i _ _ _ _ refl is learnt
+  pop-front-ours a r e is learnt = ours-on w i _ _ _ _ refl is (learnt .row)
 
   pub insert-ours : (a : ArgsD fn.insert.signature κs) (r : ResD fn.insert.signature κs) (e : AtExit fn.insert.ended κs)
       → Is w i ring (tray (a .0) (now (a .1 .0))) → fn.insert.Reads.Learnt κs a r e → Ours w (on i (insert (a .1 .1 .0) (a .1 .1 .1 .0)) (seen r (now (e .1 .0))))
-  insert-ours a r e is learnt = ours-on w i _ _ _ _ refl is learnt
+  insert-ours a r e is learnt = ours-on w i _ _ _ _ refl is (learnt .row)
 
   pub remove-ours : (a : ArgsD fn.remove.signature κs) (r : ResD fn.remove.signature κs) (e : AtExit fn.remove.ended κs)
       → Is w i ring (tray (a .0) (now (a .1 .0))) → fn.remove.Reads.Learnt κs a r e → Ours w (on i (remove (a .1 .1 .0)) (seen r (now (e .1 .0))))
-  remove-ours a r e is learnt = ours-on w i _ _ _ _ refl is learnt
+  remove-ours a r e is learnt = ours-on w i _ _ _ _ refl is (learnt .row)
 
   pub truncate-ours : (a : ArgsD fn.truncate.signature κs) (r : ResD fn.truncate.signature κs) (e : AtExit fn.truncate.ended κs)
       → Is w i ring (tray (a .0) (now (a .1 .0))) → fn.truncate.Reads.Learnt κs a r e → Ours w (on i (truncate (a .1 .1 .0)) (seen r (now (e .1 .0))))
-  truncate-ours a r e is learnt = ours-on w i _ _ _ _ refl is learnt
+  truncate-ours a r e is learnt = ours-on w i _ _ _ _ refl is (learnt .row)
 
   pub resize-ours : (a : ArgsD fn.resize.signature κs) (r : ResD fn.resize.signature κs) (e : AtExit fn.resize.ended κs)
       → Is w i ring (tray (a .0) (now (a .1 .0))) → fn.resize.Reads.Learnt κs a r e → Ours w (on i (resize (a .1 .1 .0) (a .1 .1 .1 .0)) (seen r (now (e .1 .0))))
-  resize-ours a r e is learnt = ours-on w i _ _ _ _ refl is learnt
+  resize-ours a r e is learnt = ours-on w i _ _ _ _ refl is (learnt .row)
 
   pub clear-ours : (a : ArgsD fn.clear.signature κs) (r : ResD fn.clear.signature κs) (e : AtExit fn.clear.ended κs)
       → Is w i ring (tray (a .0) (now (a .1 .0))) → fn.clear.Reads.Learnt κs a r e → Ours w (on i clear (seen r (now (e .1 .0))))
-  clear-ours a r e is learnt = ours-on w i _ _ _ _ refl is learnt
+  clear-ours a r e is learnt = ours-on w i _ _ _ _ refl is (learnt .row)

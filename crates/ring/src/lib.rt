@@ -1,10 +1,8 @@
 // A ring of entries in lent slots. Each call's promise is its row of the table: what is seen of it is what the table says.
 ghost use mathlib.Core.Path.{_≡_};
-ghost use Rattle.slots.specs.Layout.{ring};
 ghost use Rattle.table.specs.Calls.{new, withCapacity, look, len, read, reserve};
 ghost use Rattle.table.specs.Calls.{write, push, pushFront, pop, popFront, insert, remove, truncate, resize, clear};
-ghost use Rattle.table.specs.Does.{does, made};
-ghost use Rattle.ring.specs.Seen.{tray, seen, refusing, giving};
+ghost use Rattle.ring.specs.Seen.{Meets, Makes, state, says};
 
 // The state: the slot of position 0, and how many entries there are.
 pub struct Ring {
@@ -22,29 +20,29 @@ pub struct Answer {
 
 impl Ring {
     pub fn new(slots: &[u32]) -> Answer
-        ensures { λ r. ⌜ seen r (now (slots .entry)) ≡ made ring new (now (slots .entry)) ⌝ }
+        ensures { λ r. ⌜ Makes new (now (slots .entry)) r (now (slots .entry)) ⌝ }
     {
         let cap = slots.len();
-        if 4096 < cap {
-            return refused(1, Ring { head: 0, len: 0 });
+        if slots::MOST < cap {
+            return refused(1, state(0, 0));
         }
         done(0, 0, 0, 0)
     }
 
     pub fn with_capacity(slots: &[u32], k: usize) -> Answer
-        ensures { λ r. ⌜ seen r (now (slots .entry)) ≡ made ring (withCapacity k) (now (slots .entry)) ⌝ }
+        ensures { λ r. ⌜ Makes (withCapacity k) (now (slots .entry)) r (now (slots .entry)) ⌝ }
     {
-        if 4096 < slots.len() {
-            return refused(1, Ring { head: 0, len: 0 });
+        if slots::MOST < slots.len() {
+            return refused(1, state(0, 0));
         }
         if slots.len() < k {
-            return refused(6, Ring { head: 0, len: 0 });
+            return refused(6, state(0, 0));
         }
         done(0, 0, 0, 0)
     }
 
     pub fn len(self, slots: &[u32]) -> Answer
-        ensures { λ r. ⌜ seen r (now (slots .entry)) ≡ does ring (look len) (tray self (now (slots .entry))) ⌝ }
+        ensures { λ r. ⌜ Meets (look len) self (now (slots .entry)) r (now (slots .entry)) ⌝ }
     {
         let cap = slots.len();
         let head = self.head;
@@ -52,28 +50,28 @@ impl Ring {
         if table::invalid_ring(cap, head, len) {
             return refused(1, self);
         }
-        done(runs::word(len), 0, head, len)
+        shows(runs::word(len), self)
     }
 
     pub fn read(self, slots: &[u32], i: usize) -> Answer
-        ensures { λ r. ⌜ seen r (now (slots .entry)) ≡ does ring (look (read i)) (tray self (now (slots .entry))) ⌝ }
+        ensures { λ r. ⌜ Meets (look (read i)) self (now (slots .entry)) r (now (slots .entry)) ⌝ }
     {
         let cap = slots.len();
         let head = self.head;
         let len = self.len;
-        if table::ring_lacks(cap, head, len, i) {
+        if table::invalid_ring_or_beyond(cap, head, len, i) {
             if table::invalid_ring(cap, head, len) {
                 return refused(1, self);
             }
             return refused(3, self);
         }
         let at = slots::slot(cap, head, i); // i < len: a free slot's number is no entry
-        done(slots[at], 0, head, len)
+        shows(slots[at], self)
     }
 
     // Asks whether there is room for k more, and changes nothing.
     pub fn reserve(self, slots: &[u32], k: usize) -> Answer
-        ensures { λ r. ⌜ seen r (now (slots .entry)) ≡ does ring (look (reserve k)) (tray self (now (slots .entry))) ⌝ }
+        ensures { λ r. ⌜ Meets (look (reserve k)) self (now (slots .entry)) r (now (slots .entry)) ⌝ }
     {
         let cap = slots.len();
         let head = self.head;
@@ -84,16 +82,16 @@ impl Ring {
         if cap - len < k {
             return refused(6, self);
         }
-        done(0, 0, head, len)
+        shows(0, self)
     }
 
     pub fn write(self, slots: &mut [u32], i: usize, x: u32) -> Answer
-        ensures { λ r. ⌜ seen r (now (slots .exit)) ≡ does ring (write i x) (tray self (now (slots .entry))) ⌝ }
+        ensures { λ r. ⌜ Meets (write i x) self (now (slots .entry)) r (now (slots .exit)) ⌝ }
     {
         let cap = slots.len();
         let head = self.head;
         let len = self.len;
-        if table::ring_lacks(cap, head, len, i) {
+        if table::invalid_ring_or_beyond(cap, head, len, i) {
             if table::invalid_ring(cap, head, len) {
                 return refused(1, self);
             }
@@ -102,16 +100,16 @@ impl Ring {
         let at = slots::slot(cap, head, i);
         let old = slots[at];
         slots[at] = x;
-        done(old, 0, head, len)
+        shows(old, self)
     }
 
     pub fn push_back(self, slots: &mut [u32], x: u32) -> Answer
-        ensures { λ r. ⌜ seen r (now (slots .exit)) ≡ does ring (push x) (tray self (now (slots .entry))) ⌝ }
+        ensures { λ r. ⌜ Meets (push x) self (now (slots .entry)) r (now (slots .exit)) ⌝ }
     {
         let cap = slots.len();
         let head = self.head;
         let len = self.len;
-        if table::ring_full(cap, head, len) {
+        if table::invalid_ring_or_full(cap, head, len) {
             if table::invalid_ring(cap, head, len) {
                 return refused(1, self);
             }
@@ -123,12 +121,12 @@ impl Ring {
     }
 
     pub fn push_front(self, slots: &mut [u32], x: u32) -> Answer
-        ensures { λ r. ⌜ seen r (now (slots .exit)) ≡ does ring (pushFront x) (tray self (now (slots .entry))) ⌝ }
+        ensures { λ r. ⌜ Meets (pushFront x) self (now (slots .entry)) r (now (slots .exit)) ⌝ }
     {
         let cap = slots.len();
         let head = self.head;
         let len = self.len;
-        if table::ring_full(cap, head, len) {
+        if table::invalid_ring_or_full(cap, head, len) {
             if table::invalid_ring(cap, head, len) {
                 return refused(1, self);
             }
@@ -140,12 +138,12 @@ impl Ring {
     }
 
     pub fn pop_back(self, slots: &mut [u32]) -> Answer
-        ensures { λ r. ⌜ seen r (now (slots .exit)) ≡ does ring pop (tray self (now (slots .entry))) ⌝ }
+        ensures { λ r. ⌜ Meets pop self (now (slots .entry)) r (now (slots .exit)) ⌝ }
     {
         let cap = slots.len();
         let head = self.head;
         let len = self.len;
-        if table::ring_lacks(cap, head, len, 0) {
+        if table::invalid_ring_or_beyond(cap, head, len, 0) {
             if table::invalid_ring(cap, head, len) {
                 return refused(1, self);
             }
@@ -158,12 +156,12 @@ impl Ring {
     }
 
     pub fn pop_front(self, slots: &mut [u32]) -> Answer
-        ensures { λ r. ⌜ seen r (now (slots .exit)) ≡ does ring popFront (tray self (now (slots .entry))) ⌝ }
+        ensures { λ r. ⌜ Meets popFront self (now (slots .entry)) r (now (slots .exit)) ⌝ }
     {
         let cap = slots.len();
         let head = self.head;
         let len = self.len;
-        if table::ring_lacks(cap, head, len, 0) {
+        if table::invalid_ring_or_beyond(cap, head, len, 0) {
             if table::invalid_ring(cap, head, len) {
                 return refused(1, self);
             }
@@ -176,7 +174,7 @@ impl Ring {
 
     // The fewer entries are carried: those before i, or those from i on.
     pub fn insert(self, slots: &mut [u32], i: usize, x: u32) -> Answer
-        ensures { λ r. ⌜ seen r (now (slots .exit)) ≡ does ring (insert i x) (tray self (now (slots .entry))) ⌝ }
+        ensures { λ r. ⌜ Meets (insert i x) self (now (slots .entry)) r (now (slots .exit)) ⌝ }
     {
         let cap = slots.len();
         let head = self.head;
@@ -205,12 +203,12 @@ impl Ring {
 
     // The fewer entries are carried: those before i, or those after.
     pub fn remove(self, slots: &mut [u32], i: usize) -> Answer
-        ensures { λ r. ⌜ seen r (now (slots .exit)) ≡ does ring (remove i) (tray self (now (slots .entry))) ⌝ }
+        ensures { λ r. ⌜ Meets (remove i) self (now (slots .entry)) r (now (slots .exit)) ⌝ }
     {
         let cap = slots.len();
         let head = self.head;
         let len = self.len;
-        if table::ring_lacks(cap, head, len, i) {
+        if table::invalid_ring_or_beyond(cap, head, len, i) {
             if table::invalid_ring(cap, head, len) {
                 return refused(1, self);
             }
@@ -232,7 +230,7 @@ impl Ring {
 
     // A ring on no slots has no slot for its head: where there is nothing to fill, here and below, that is a return of its own.
     pub fn truncate(self, slots: &mut [u32], k: usize) -> Answer
-        ensures { λ r. ⌜ seen r (now (slots .exit)) ≡ does ring (truncate k) (tray self (now (slots .entry))) ⌝ }
+        ensures { λ r. ⌜ Meets (truncate k) self (now (slots .entry)) r (now (slots .exit)) ⌝ }
     {
         let cap = slots.len();
         let head = self.head;
@@ -241,14 +239,14 @@ impl Ring {
             return refused(1, self);
         }
         if len <= k {
-            return done(0, 0, head, len);
+            return shows(0, self);
         }
         runs::fill(slots, head, k, len, 0); // a free slot keeps what it held
         done(0, 0, head, k)
     }
 
     pub fn resize(self, slots: &mut [u32], k: usize, x: u32) -> Answer
-        ensures { λ r. ⌜ seen r (now (slots .exit)) ≡ does ring (resize k x) (tray self (now (slots .entry))) ⌝ }
+        ensures { λ r. ⌜ Meets (resize k x) self (now (slots .entry)) r (now (slots .exit)) ⌝ }
     {
         let cap = slots.len();
         let head = self.head;
@@ -267,11 +265,11 @@ impl Ring {
             runs::fill(slots, head, len, k, x);
             return done(0, 0, head, k);
         }
-        done(0, 0, head, len)
+        shows(0, self)
     }
 
     pub fn clear(self, slots: &mut [u32]) -> Answer
-        ensures { λ r. ⌜ seen r (now (slots .exit)) ≡ does ring clear (tray self (now (slots .entry))) ⌝ }
+        ensures { λ r. ⌜ Meets clear self (now (slots .entry)) r (now (slots .exit)) ⌝ }
     {
         let cap = slots.len();
         let head = self.head;
@@ -287,24 +285,42 @@ impl Ring {
     }
 }
 
-fn refused(number: u8, ring: Ring) -> Answer
-    ensures { λ r. ⌜ r ≡ refusing number ring ⌝ }
+// The state with this head and length: every state of a ring is put together here.
+pub fn state(head: usize, len: usize) -> Ring
+    ensures { λ r. ⌜ r ≡ state head len ⌝ }
+{
+    Ring { head, len }
+}
+
+// Every answer is put together here.
+fn says(number: u8, value: u32, moves: usize, ring: Ring) -> Answer
+    ensures { λ r. ⌜ r ≡ says number value moves ring ⌝ }
 {
     Answer {
         number,
-        value: 0,
-        moves: 0,
+        value,
+        moves,
         ring,
     }
 }
 
-fn done(value: u32, moves: usize, head: usize, len: usize) -> Answer
-    ensures { λ r. ⌜ r ≡ giving value moves head len ⌝ }
+// A refused call gives back the state that it got.
+pub fn refused(number: u8, ring: Ring) -> Answer
+    ensures { λ r. ⌜ r ≡ says number 0 0 ring ⌝ }
 {
-    Answer {
-        number: 0,
-        value,
-        moves,
-        ring: Ring { head, len },
-    }
+    says(number, 0, 0, ring)
+}
+
+// So does a call that is done and leaves the state.
+pub fn shows(value: u32, ring: Ring) -> Answer
+    ensures { λ r. ⌜ r ≡ says 0 value 0 ring ⌝ }
+{
+    says(0, value, 0, ring)
+}
+
+// A call that is done, with the head and the length afterwards.
+pub fn done(value: u32, moves: usize, head: usize, len: usize) -> Answer
+    ensures { λ r. ⌜ r ≡ says 0 value moves (state head len) ⌝ }
+{
+    says(0, value, moves, state(head, len))
 }

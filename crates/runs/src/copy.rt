@@ -1,8 +1,9 @@
 // Runs of numbers that are laid into a container's positions, from a lent part or from another ring.
+use slots::MOST;
 use slots::slot;
 ghost use Prim.Native.Nat.{_+_, _≤_, _<_};
 ghost use lib.ListN.{length};
-ghost use Rattle.slots.specs.Layout.{slotOf, itself, entries};
+ghost use Rattle.slots.specs.Layout.{most, slotOf, itself, entries};
 ghost use Rattle.slots.specs.Shift.{Reach};
 ghost use Rattle.slots.specs.Copy.{Laid};
 
@@ -21,10 +22,10 @@ fn put(slots: &mut [u32], at: usize, part: &[u32], count: usize)
 // The same by way of a local. Two lent runs might overlap for all that LLVM knows, but neither overlaps a local: so each of the two loops is a block
 // move, and LLVM makes one move of both and needs no local.
 pub fn run_copy(slots: &mut [u32], at: usize, part: &[u32], count: usize)
-    requires { ⌜ (at + count ≤ length (now slots)) × (count ≤ length (now part)) × (count ≤ 4096) ⌝ }
+    requires { ⌜ (at + count ≤ length (now slots)) × (count ≤ length (now part)) × (count ≤ most) ⌝ }
     ensures { λ _. ⌜ Laid itself at count (now (part .entry)) (now (slots .entry)) (now (slots .exit)) ⌝ }
 {
-    let mut held = [0; 4096];
+    let mut held = [0; MOST];
     put(&mut held, 0, part, count);
     put(slots, at, &held, count);
 }

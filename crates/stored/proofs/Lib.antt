@@ -1,5 +1,6 @@
 -- The laws on stored texts.
 pub mod Lines
 pub mod Writes
+pub mod Ours
 pub mod Once
 pub mod Worked

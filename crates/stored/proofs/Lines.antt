@@ -8,11 +8,10 @@ use lib.ListN.{length, getD, set, drop, length-append, drop-of-length-le}
 use lib.Seq.{drop-cons}
 use Rattle.slots.specs.Layout.{Kind}
 use Rattle.table.specs.Tray.{Tray, cap}
-use Rattle.table.specs.Does.{headIn}
 use Rattle.digits.specs.Hex.{hex, lf, atStart}
 use Rattle.digits.specs.Put.{put}
 use Rattle.digits.proofs.Puts.{put-after, after-hex, put-ended, put-start, length-hex}
-use Rattle.stored.specs.Form.{kindByte, stateDigits, firstLine, slotLine, slotLines, form, size}
+use Rattle.stored.specs.Form.{headIn, kindByte, stateDigits, firstLine, slotLine, slotLines, form, size}
 
 -- the numbers of the first line, each where the one before it ends
 pub state-put : (text a b e : List ℕ) (cap head len : ℕ) → a ≡ put text 4 (hex 4 cap) → b ≡ put a 8 (hex 4 head) → e ≡ put b 12 (hex 4 len)

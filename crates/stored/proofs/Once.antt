@@ -7,7 +7,9 @@ use denote.Ref.{now}
 use denote.Triple.Clauses.{AtExit}
 use borrow.Fn.World.{ArgsD, ResD}
 use Rattle.ring.specs.declared.Answer as ringAnswer
+use Rattle.ring.specs.Seen as rings
 use Rattle.vector.specs.declared.Answer as vectorAnswer
+use Rattle.vector.specs.Seen as vectors
 use Rattle.stored.specs.Written.{Written}
 use Rattle.stored.specs.Seen.{seenRing, seenVector}
 use Rattle.stored.proofs.ring_text as ring-text·fn
@@ -25,22 +27,16 @@ one seen read back kept w a a′ text text′ p q = (
 )
 
 abbrev ringBack : Written → ringAnswer.Answer
-ringBack w = record {
-  number = w .outcome .number;
-  value = w .outcome .value;
-  moves = w .outcome .moves;
-  ring = record { head = w .outcome .tray .head; len = w .outcome .tray .len };
-}
+ringBack w = rings.says (w .outcome .number) (w .outcome .value) (w .outcome .moves) (rings.state (w .outcome .tray .head) (w .outcome .tray .len))
 
 abbrev vectorBack : Written → vectorAnswer.Answer
-vectorBack w =
-    record { number = w .outcome .number; value = w .outcome .value; moves = w .outcome .moves; vector = record { len = w .outcome .tray .len } }
+vectorBack w = vectors.says (w .outcome .number) (w .outcome .value) (w .outcome .moves) (vectors.state (w .outcome .tray .len))
 
 module _ (κs : Lfts 2) where
   pub ring-text-once : (a : ArgsD ring-text·fn.signature κs) (r r′ : ResD ring-text·fn.signature κs) (e e′ : AtExit ring-text·fn.ended κs)
       → ring-text·reads.Learnt κs a r e → ring-text·reads.Learnt κs a r′ e′ → (r ≡ r′) × (now (e .1 .1 .0) ≡ now (e′ .1 .1 .0))
-  ring-text-once a r r′ e e′ p q = one (λ r text. seenRing r (now (a .1 .0)) text) ringBack (λ r text. refl) (λ r text. refl) _ r r′ _ _ p q
+  ring-text-once a r r′ e e′ p q = one (λ r text. seenRing r (now (a .1 .0)) text) ringBack (λ r text. refl) (λ r text. refl) _ r r′ _ _ (p .row) (q .row)
 
   pub vector-text-once : (a : ArgsD vector-text·fn.signature κs) (r r′ : ResD vector-text·fn.signature κs) (e e′ : AtExit vector-text·fn.ended κs)
       → vector-text·reads.Learnt κs a r e → vector-text·reads.Learnt κs a r′ e′ → (r ≡ r′) × (now (e .1 .1 .0) ≡ now (e′ .1 .1 .0))
-  vector-text-once a r r′ e e′ p q = one (λ r text. seenVector r (now (a .1 .0)) text) vectorBack (λ r text. refl) (λ r text. refl) _ r r′ _ _ p q
+  vector-text-once a r r′ e e′ p q = one (λ r text. seenVector r (now (a .1 .0)) text) vectorBack (λ r text. refl) (λ r text. refl) _ r r′ _ _ (p .row) (q .row)

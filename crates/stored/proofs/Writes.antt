@@ -7,7 +7,7 @@ use borrow.Author.Tests.{le-ltb}
 use lib.ListN.{length}
 use Rattle.slots.specs.Layout.{Kind, ring, vector}
 use Rattle.table.specs.Tray.{Tray, cap, invalid, nowhere}
-use Rattle.table.specs.Does.{gives, refused, headIn}
+use Rattle.table.specs.Does.{gives, refused}
 use Rattle.table.proofs.Laws.Refusals
 use Rattle.digits.specs.Put.{put}
 use Rattle.ring.specs.declared.Ring.{Ring}
@@ -16,9 +16,9 @@ use Rattle.ring.specs.Seen as rings
 use Rattle.vector.specs.declared.Vector.{Vector}
 use Rattle.vector.specs.declared.Answer as vectorAnswer
 use Rattle.vector.specs.Seen as vectors
-use Rattle.stored.specs.Form.{kindByte, firstLine, slotLines, size}
+use Rattle.stored.specs.Form.{headIn, kindByte, firstLine, slotLines, size}
 use Rattle.stored.specs.Written.{Written, writes}
-use Rattle.stored.specs.Seen.{seenRing, seenVector, ringSays, vectorSays}
+use Rattle.stored.specs.Seen.{seenRing, seenVector, RingStored, VectorStored}
 use Rattle.stored.proofs.Lines.{form-put}
 
 -- what a refusal and a done call are seen as
@@ -28,36 +28,46 @@ refusing t number text = record { outcome = refused t nowhere number; text = tex
 abbrev telling : Tray → (value : ℕ) → List ℕ → Written
 telling t value text = record { outcome = gives value 0 (t .head) (t .len) (t .slots); text = text }
 
-pub write-done : (k : Kind) (t : Tray) (text mid out : List ℕ) (w : Written) → invalid k t ≡ false → size (cap t) ≤ length text
+pub write-done : (k : Kind) (t : Tray) (text mid out : List ℕ) (w : Written) (value : ℕ) → invalid k t ≡ false → size (cap t) ≤ length text
     → mid ≡ put text 0 (firstLine (kindByte k) (cap t) (headIn k (t .head)) (t .len)) → out ≡ put mid 17 (slotLines (t .slots))
-    → w ≡ telling t (size (cap t)) out → w ≡ writes k t text
+    → value ≡ size (cap t) → w ≡ telling t value out → w ≡ writes k t text
 unfolding writes
-write-done k t text mid out w ok room em eo ew = cc (ok, le-ltb _ _ room, ew, eo, form-put k t text mid room em)
+write-done k t text mid out w value ok room em eo ev ew = cc (ok, le-ltb _ _ room, ew, eo, ev, form-put k t text mid room em)
 
--- the rules of the answers of this crate
-pub ring-refused : (r : Ring) (slots text : List ℕ) (a : ringAnswer.Answer) (m : ℕ) → a ≡ ringSays m 0 r → seenRing a slots text ≡ refusing (rings.tray r slots) m text
+-- the rules of the promises and answers of this crate
+pub ring-stored : (r : Ring) (slots before : List ℕ) (a : ringAnswer.Answer) (text : List ℕ) → seenRing a slots text ≡ writes ring (rings.tray r slots) before
+    → RingStored r slots before a text
+ring-stored r slots before a text e = record { row = e }
+
+pub vector-stored : (v : Vector) (slots before : List ℕ) (a : vectorAnswer.Answer) (text : List ℕ)
+    → seenVector a slots text ≡ writes vector (vectors.tray v slots) before → VectorStored v slots before a text
+vector-stored v slots before a text e = record { row = e }
+
+pub ring-refused : (r : Ring) (slots text : List ℕ) (a : ringAnswer.Answer) (m : ℕ) → a ≡ rings.says m 0 0 r → seenRing a slots text ≡ refusing (rings.tray r slots) m text
 ring-refused r slots text a m e = ap (λ a. seenRing a slots text) e
 
-pub ring-told : (r : Ring) (slots text : List ℕ) (a : ringAnswer.Answer) (value : ℕ) → a ≡ ringSays 0 value r → seenRing a slots text ≡ telling (rings.tray r slots) value text
+pub ring-told : (r : Ring) (slots text : List ℕ) (a : ringAnswer.Answer) (value : ℕ) → a ≡ rings.says 0 value 0 r → seenRing a slots text ≡ telling (rings.tray r slots) value text
 ring-told r slots text a value e = ap (λ a. seenRing a slots text) e
 
-pub vector-refused : (v : Vector) (slots text : List ℕ) (a : vectorAnswer.Answer) (m : ℕ) → a ≡ vectorSays m 0 v
+pub vector-refused : (v : Vector) (slots text : List ℕ) (a : vectorAnswer.Answer) (m : ℕ) → a ≡ vectors.says m 0 0 v
     → seenVector a slots text ≡ refusing (vectors.tray v slots) m text
 vector-refused v slots text a m e = ap (λ a. seenVector a slots text) e
 
-pub vector-told : (v : Vector) (slots text : List ℕ) (a : vectorAnswer.Answer) (value : ℕ) → a ≡ vectorSays 0 value v
+pub vector-told : (v : Vector) (slots text : List ℕ) (a : vectorAnswer.Answer) (value : ℕ) → a ≡ vectors.says 0 value 0 v
     → seenVector a slots text ≡ telling (vectors.tray v slots) value text
 vector-told v slots text a value e = ap (λ a. seenVector a slots text) e
 
 -- a ring's and a vector's, with the numbers that the code has
-pub ring-write-done : (t : Tray) (text mid out : List ℕ) (w : Written) → invalid ring t ≡ false → size (cap t) ≤ length text
-    → mid ≡ put text 0 (firstLine 0 (cap t) (t .head) (t .len)) → out ≡ put mid 17 (slotLines (t .slots)) → w ≡ telling t (size (cap t)) out → w ≡ writes ring t text
+pub ring-write-done : (t : Tray) (text mid out : List ℕ) (w : Written) (value : ℕ) → invalid ring t ≡ false → size (cap t) ≤ length text
+    → mid ≡ put text 0 (firstLine 0 (cap t) (t .head) (t .len)) → out ≡ put mid 17 (slotLines (t .slots)) → value ≡ size (cap t)
+    → w ≡ telling t value out → w ≡ writes ring t text
 ring-write-done = write-done ring
 
-pub vector-write-done : (t : Tray) (text mid out : List ℕ) (w : Written) → invalid vector t ≡ false → size (cap t) ≤ length text
-    → mid ≡ put text 0 (firstLine 1 (cap t) 0 (t .len)) → out ≡ put mid 17 (slotLines (t .slots)) → w ≡ telling t (size (cap t)) out → w ≡ writes vector t text
+pub vector-write-done : (t : Tray) (text mid out : List ℕ) (w : Written) (value : ℕ) → invalid vector t ≡ false → size (cap t) ≤ length text
+    → mid ≡ put text 0 (firstLine 1 (cap t) 0 (t .len)) → out ≡ put mid 17 (slotLines (t .slots)) → value ≡ size (cap t)
+    → w ≡ telling t value out → w ≡ writes vector t text
 vector-write-done = write-done vector
 
-pub ruleset refusals = (ring-refused, vector-refused, Refusals.refusals)
+pub ruleset refusals = (ring-stored, vector-stored, ring-refused, vector-refused, Refusals.refusals)
 
-pub ruleset shown = (ring-told, vector-told, Refusals.tests)
+pub ruleset shown = (ring-stored, vector-stored, ring-told, vector-told, Refusals.tests)

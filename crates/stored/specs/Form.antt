@@ -3,13 +3,17 @@ use Prim.Native.Nat.{ℕ, _+_, _*_}
 use mathlib.Core.List.{List, [], _∷_, _++_}
 use Rattle.slots.specs.Layout.{Kind, ring, vector}
 use Rattle.table.specs.Tray.{Tray, cap}
-use Rattle.table.specs.Does.{headIn}
 use Rattle.digits.specs.Hex.{hex, lf}
 
 -- 00 is a ring, 01 a vector
 abbrev pub kindByte : Kind → ℕ
 kindByte ring = 0
 kindByte vector = 1
+
+-- the head of a vector is 0
+abbrev pub headIn : Kind → ℕ → ℕ
+headIn ring h = h
+headIn vector h = 0
 
 -- first line: kind, 00, capacity, head, length, as 1, 1, 2, 2, 2 bytes
 unfoldable pub stateDigits : (c h n : ℕ) → List ℕ
@@ -26,7 +30,6 @@ unfoldable pub slotLines : (slots : List ℕ) → List ℕ
 slotLines [] = []
 slotLines (x ∷ slots) = slotLine x ++ slotLines slots
 
--- the head of a vector is 0
 unfoldable pub form : Kind → Tray → List ℕ
 form k t = firstLine (kindByte k) (cap t) (headIn k (t .head)) (t .len) ++ slotLines (t .slots)
 

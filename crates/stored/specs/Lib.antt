@@ -2,3 +2,4 @@
 pub mod Form
 pub mod Written
 pub mod Seen
+pub mod Storing

@@ -1,13 +1,15 @@
--- How the code's answers are read: the container's answer, with the text.
+-- How the code's answers are read: the container's answer, with the text; and what a writer promises.
 use Prim.Native.Nat.{ℕ}
+use mathlib.Core.Path.{_≡_}
 use mathlib.Core.List.{List}
+use Rattle.slots.specs.Layout.{ring, vector}
 use Rattle.ring.specs.declared.Ring.{Ring}
 use Rattle.ring.specs.declared.Answer as ringAnswer
 use Rattle.ring.specs.Seen as rings
 use Rattle.vector.specs.declared.Vector.{Vector}
 use Rattle.vector.specs.declared.Answer as vectorAnswer
 use Rattle.vector.specs.Seen as vectors
-use Rattle.stored.specs.Written.{Written}
+use Rattle.stored.specs.Written.{Written, writes}
 
 abbrev pub seenRing : ringAnswer.Answer → (slots text : List ℕ) → Written
 seenRing a slots text = record { outcome = rings.seen a slots; text = text }
@@ -15,9 +17,9 @@ seenRing a slots text = record { outcome = rings.seen a slots; text = text }
 abbrev pub seenVector : vectorAnswer.Answer → (slots text : List ℕ) → Written
 seenVector a slots text = record { outcome = vectors.seen a slots; text = text }
 
--- what the private functions `ring_answer` and `vector_answer` answer
-abbrev pub ringSays : (number value : ℕ) → Ring → ringAnswer.Answer
-ringSays number value r = record { number = number; value = value; moves = 0; ring = r }
+-- The promise of the writer for a ring whose slots hold these numbers: its answer and every byte of the text are what `writes` says.
+pub record RingStored (over : Ring) (slots before : List ℕ) (a : ringAnswer.Answer) (after : List ℕ) : Type 0 where
+  pub row : seenRing a slots after ≡ writes ring (rings.tray over slots) before
 
-abbrev pub vectorSays : (number value : ℕ) → Vector → vectorAnswer.Answer
-vectorSays number value v = record { number = number; value = value; moves = 0; vector = v }
+pub record VectorStored (over : Vector) (slots before : List ℕ) (a : vectorAnswer.Answer) (after : List ℕ) : Type 0 where
+  pub row : seenVector a slots after ≡ writes vector (vectors.tray over slots) before

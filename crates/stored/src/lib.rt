@@ -4,13 +4,9 @@ use vector::Vector;
 ghost use mathlib.Core.Path.{_≡_};
 ghost use Prim.Native.Nat.{_+_, _*_, _≤_};
 ghost use lib.ListN.{length};
-ghost use Rattle.slots.specs.Layout.{ring, vector};
 ghost use Rattle.digits.specs.Put.{put};
-ghost use Rattle.ring.specs.Seen as rings;
-ghost use Rattle.vector.specs.Seen as vectors;
 ghost use Rattle.stored.specs.Form.{firstLine, stateDigits, slotLine, slotLines};
-ghost use Rattle.stored.specs.Written.{writes};
-ghost use Rattle.stored.specs.Seen.{seenRing, seenVector, ringSays, vectorSays};
+ghost use Rattle.stored.specs.Seen.{RingStored, VectorStored};
 
 // The end of the first line: a capacity, a head and a length.
 fn put_state(text: &mut [u8], cap: usize, head: usize, len: usize)
@@ -38,7 +34,7 @@ fn put_line(text: &mut [u8], at: usize, x: u32)
     requires { ⌜ at + 9 ≤ length (now text) ⌝ }
     ensures { λ _. ⌜ now (text .exit) ≡ put (now (text .entry)) at (slotLine x) ⌝ }
 {
-    digits::put_hex(text, at, 8, x as u64);
+    digits::put_hex(text, at, 8, runs::number(x));
     text[at + 8] = 10;
 }
 
@@ -58,59 +54,37 @@ pub fn put_slots(text: &mut [u8], from: usize, slots: &[u32])
 
 // A ring's stored form, at the start of the text.
 pub fn ring_text(over: Ring, slots: &[u32], text: &mut [u8]) -> ring::Answer
-    ensures { λ r. ⌜ seenRing r (now (slots .entry)) (now (text .exit)) ≡ writes ring (rings.tray over (now (slots .entry))) (now (text .entry)) ⌝ }
+    ensures { λ r. ⌜ RingStored over (now (slots .entry)) (now (text .entry)) r (now (text .exit)) ⌝ }
 {
     let cap = slots.len();
     let head = over.head;
     let len = over.len;
     if table::invalid_ring(cap, head, len) {
-        return ring_answer(1, 0, over);
+        return ring::refused(1, over);
     }
     let size = 17 + 9 * cap;
     if text.len() < size {
-        return ring_answer(6, 0, over);
+        return ring::refused(6, over);
     }
     put_first(text, 0, cap, head, len);
     put_slots(text, 17, slots);
-    ring_answer(0, size as u32, over)
+    ring::shows(runs::word(size), over)
 }
 
 // A vector's stored form, at the start of the text. Its head is 0.
 pub fn vector_text(over: Vector, slots: &[u32], text: &mut [u8]) -> vector::Answer
-    ensures { λ r. ⌜ seenVector r (now (slots .entry)) (now (text .exit)) ≡ writes vector (vectors.tray over (now (slots .entry))) (now (text .entry)) ⌝ }
+    ensures { λ r. ⌜ VectorStored over (now (slots .entry)) (now (text .entry)) r (now (text .exit)) ⌝ }
 {
     let cap = slots.len();
     let len = over.len;
     if table::invalid_vector(cap, len) {
-        return vector_answer(1, 0, over);
+        return vector::refused(1, over);
     }
     let size = 17 + 9 * cap;
     if text.len() < size {
-        return vector_answer(6, 0, over);
+        return vector::refused(6, over);
     }
     put_first(text, 1, cap, 0, len);
     put_slots(text, 17, slots);
-    vector_answer(0, size as u32, over)
-}
-
-fn ring_answer(number: u8, value: u32, ring: Ring) -> ring::Answer
-    ensures { λ r. ⌜ r ≡ ringSays number value ring ⌝ }
-{
-    ring::Answer {
-        number,
-        value,
-        moves: 0,
-        ring,
-    }
-}
-
-fn vector_answer(number: u8, value: u32, vector: Vector) -> vector::Answer
-    ensures { λ r. ⌜ r ≡ vectorSays number value vector ⌝ }
-{
-    vector::Answer {
-        number,
-        value,
-        moves: 0,
-        vector,
-    }
+    vector::shows(runs::word(size), over)
 }

@@ -4,8 +4,8 @@ use mathlib.Core.Bool.{Bool, cond}
 use mathlib.Core.List.{List, [], _∷_}
 use lib.ListN.{length}
 use lib.Dec.{ltb}
-use Rattle.slots.specs.Layout.{Kind, ring, vector, place, pos, relaid}
-use Rattle.slots.specs.Moves.{moved}
+use Rattle.slots.specs.Layout.{most, Kind, ring, vector, place, pos, relaid}
+use Rattle.slots.specs.Moves.{Carried, moved}
 use Rattle.table.specs.Tray.{Tray, cap, list, invalid, Cursor, nowhere}
 use Rattle.table.specs.Calls.{Call, Call2, Making}
 use Rattle.table.specs.Table.{Refusal, firstInvalid, secondInvalid, numberOf, Row, Row2, row, row2, makes, after, after2, begins}
@@ -31,26 +31,30 @@ abbrev pub firstRefusal : {A : Type 0} → (ℕ → A) → List (Bool × Refusal
 firstRefusal refuse [] done = done
 firstRefusal refuse (r ∷ rest) done = cond (r .0) (refuse (numberOf (r .1))) (firstRefusal refuse rest done)
 
--- a vector has no head
-abbrev pub headIn : Kind → ℕ → ℕ
-headIn ring h = h
-headIn vector h = 0
+-- the head afterwards, where the row says h and n entries are left: a vector has none, and 0 stands there
+abbrev pub headAfter : Kind → (n h : ℕ) → ℕ
+headAfter ring n h = h
+headAfter vector n h = 0
 
--- what the slots hold once the list is `l` and the head `head`
+-- the container once its list is `l`, where the row says `head`
 abbrev pub relay : Kind → Tray → (l : List ℕ) (head : ℕ) → Tray
 relay k t l head = record {
-  head = head;
+  head = headAfter k (length l) head;
   len = length l;
-  slots = relaid (pos k (cap t) (t .head)) (pos k (cap t) head) (t .len) l (t .slots);
+  slots = relaid (pos k (cap t) (t .head)) (pos k (cap t) (headAfter k (length l) head)) (t .len) l (t .slots);
 }
+
+-- how many of its entries then stand in another slot
+abbrev pub shifted : Kind → Tray → (l : List ℕ) (head : ℕ) (carry : ℕ → Carried) → ℕ
+shifted k t l head carry = moved (place k (cap t) (t .head)) (place k (cap t) (relay k t l head .head)) carry (t .len)
 
 -- a call that is done: its row and the list afterwards say all
 abbrev pub done : Kind → Tray → (l : List ℕ) → Row → Outcome
 done k t l r = record {
   number = 0;
   value = r .value;
-  moves = moved (place k (cap t) (t .head)) (place k (cap t) (headIn k (r .head))) (r .carry) (t .len);
-  tray = relay k t l (headIn k (r .head));
+  moves = shifted k t l (r .head) (r .carry);
+  tray = relay k t l (r .head);
   cursor = r .cursor;
 }
 
@@ -70,7 +74,7 @@ abbrev pub bare : List ℕ → Tray
 bare slots = record { head = 0; len = 0; slots = slots }
 
 abbrev pub refusalsMade : Making → (slots : List ℕ) → List (Bool × Refusal)
-refusalsMade m slots = (ltb 4096 (length slots), firstInvalid) ∷ makes (length slots) m .refusals
+refusalsMade m slots = (ltb most (length slots), firstInvalid) ∷ makes (length slots) m .refusals
 
 -- A making.
 unfoldable pub made : Kind → Making → List ℕ → Outcome
@@ -92,7 +96,7 @@ abbrev pub done2 : (k k2 : Kind) (t t2 : Tray) → (lists : List ℕ × List ℕ
 done2 k k2 t t2 lists r = record {
   number = 0;
   value = r .value;
-  moves = moved (place k (cap t) (t .head)) (place k (cap t) (t .head)) (r .carry) (t .len);
+  moves = shifted k t (lists .0) (t .head) (r .carry);
   first = relay k t (lists .0) (t .head);
   second = relay k2 t2 (lists .1) (r .head2);
   cursor = r .cursor;

@@ -60,6 +60,10 @@ pub record Rule2 : Type 0 where
   pub after : (l l2 : List ℕ) → List ℕ × List ℕ
   pub flow : (v : ℕ) (l l2 : List ℕ) → Flow
 
+-- of a call that leaves the list as it was
+abbrev pub leaving : Rule
+leaving = record { after = λ l. l; flow = λ v l. none }
+
 -- the rules of paper 01's calls
 abbrev pub rule : Call → Rule
 rule call = record { after = after call; flow = flow call }
@@ -74,7 +78,7 @@ ifDone (suc m) f g = g
 
 -- the rule that an answer goes by: a refused call leaves the lists and does none of these
 abbrev pub goesBy : (number : ℕ) → Rule → Rule
-goesBy number r = ifDone number r (record { after = λ l. l; flow = λ v l. none })
+goesBy number r = ifDone number r leaving
 
 abbrev pub goesBy2 : (number : ℕ) → Rule2 → Rule2
 goesBy2 number r = ifDone number r (record { after = λ l l2. (l, l2); flow = λ v l l2. none })

@@ -5,7 +5,7 @@ use mathlib.Core.Path.{_≡_}
 use mathlib.Core.Bool.{true}
 use mathlib.Core.List.{List}
 use lib.ListN.{length}
-use Rattle.slots.specs.Layout.{Kind}
+use Rattle.slots.specs.Layout.{most, Kind}
 use Rattle.table.specs.Tray.{Tray, cap, invalid, Cursor}
 use Rattle.table.specs.Calls.{read, reserve, tryReserve, tryReserveExact, range, stepFront, stepBack, peekFront, peekBack}
 use Rattle.table.specs.Calls.{Call, push, pushFront, pop, popFront, insert, remove, swapRemove, write, resize, extend, look}
@@ -63,7 +63,7 @@ pub data Applies2 (k k2 : Kind) (t t2 : Tray) : ℕ → Call2 → Type 0 where
 
 -- of a making on these slots
 pub data AppliesMade (slots : List ℕ) : ℕ → Making → Type 0 where
-  too-many : {m : Making} → 4096 < length slots → AppliesMade slots 1 m
+  too-many : {m : Making} → most < length slots → AppliesMade slots 1 m
   full-capacity : {i : ℕ} → length slots < i → AppliesMade slots 6 (withCapacity i)
   full-elem : {i x : ℕ} → length slots < i → AppliesMade slots 6 (fromElem i x)
 

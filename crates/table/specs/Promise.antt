@@ -10,7 +10,7 @@ use Rattle.table.specs.Tray.{Tray, cap, list, nowhere}
 use Rattle.table.specs.Calls.{Call, Call2, Making, has, has2, hasMaking}
 use Rattle.table.specs.Table as table
 use Rattle.table.specs.Does.{Outcome, Outcome2, refused, refused2, does, does2, made}
-use Rattle.table.specs.Ledger.{Flow, Rule, Rule2, rule, rule2, ifDone, goesBy, goesBy2}
+use Rattle.table.specs.Ledger.{Flow, Rule, Rule2, leaving, rule, rule2, ifDone, goesBy, goesBy2}
 
 -- a call on one container
 pub record Promise : Type 0 where
@@ -39,6 +39,10 @@ promise2 call = record { has = has2 call; does = λ k k2 t t2. does2 k k2 call t
 
 abbrev pub arrival : Making → Arrival
 arrival m = record { has = hasMaking m; makes = λ k slots. made k m slots; begins = table.begins m }
+
+-- a call that shows something and leaves everything as it was
+abbrev pub showing : (has : Kind → Bool) (does : Kind → Tray → Outcome) → Promise
+showing has does = record { has = has; does = does; rule = leaving }
 
 -- the same call, but refused with a further number where the test says so
 abbrev pub unless : (number : ℕ) (test : Kind → Tray → Bool) → Promise → Promise

@@ -1,106 +1,133 @@
--- A word made of an answer says that answer, and the moves of every call fit it.
+-- A word made of an answer says that answer, every answer fits one, and what is heard of a call is what is seen of it.
 use mathlib.Core.Path.{_≡_, refl, sym, ap, _∙_}
-use mathlib.Core.Bool.{Bool, true, false}
-use Prim.Native.Nat.{ℕ, zero, suc, _+_, _*_, _/_, _%_, _≤_, _<_}
-use native.Mathlib.Nat.{le-trans}
+use mathlib.Core.Bool.{true}
+use mathlib.Core.List.{List}
+use Prim.Native.Nat.{ℕ, _+_, _*_, _/_, _%_, _<_}
 use native.Mathlib.Omega.{arith}
 use lib.Arith.{digits-div, digits-mod}
-use Rattle.slots.specs.Count.{one, tally}
-use Rattle.slots.specs.Layout.{Kind, ring, vector, place}
-use Rattle.slots.specs.Moves.{Carried, elsewhere, moved}
-use Rattle.table.specs.Tray.{Tray, cap, list, valid, invalid, Cursor, nowhere}
-use Rattle.table.specs.Calls.{Call, Look, look, Call2, clone}
+use Rattle.slots.specs.Layout.{Kind, ring, vector}
+use Rattle.table.specs.Tray.{Tray, list, Cursor, nowhere}
+use Rattle.table.specs.Calls.{Call, Look, look, Call2, clone, has}
 use Rattle.table.specs.Table.{after, after2}
-use Rattle.table.specs.Does.{Outcome, refused, headIn, relay, done, does, rowOf, refusalsOf, Outcome2, refused2, done2, does2, rowOf2, refusalsOf2}
+use Rattle.table.specs.Does.{Outcome, refused, relay, done, does, rowOf, refusalsOf, Outcome2, refused2, done2, does2, rowOf2, refusalsOf2}
 use Rattle.table.proofs.Laws.Refusals.{either}
-use Rattle.table.proofs.Laws.Done.{done-is, many, as-it-was}
+use Rattle.table.proofs.Laws.Done.{Homed, done-is, many, as-it-was}
 use Rattle.table.proofs.Laws.Looks.{look-done}
-use Rattle.table.proofs.Theorems.Moves.{moves-of2}
-use Rattle.table.proofs.Laws.Valid.{ring-facts, vector-facts}
-use Rattle.tumbrelice.specs.Heard.{Worded, heardAt, heard, heard2}
+use Rattle.table.proofs.Theorems.Refused.{few-numbers, few-numbers2}
+use Rattle.table.proofs.Theorems.Moves.{few-moves, moves-of2}
+use Rattle.ring.specs.declared.Ring.{Ring}
+use Rattle.ring.specs.declared.Answer as ringAnswer
+use Rattle.ring.specs.Seen as rings
+use Rattle.vector.specs.declared.Vector.{Vector}
+use Rattle.vector.specs.declared.Answer as vectorAnswer
+use Rattle.vector.specs.Seen as vectors
+use Rattle.pairs.specs.declared.rings.Both.{Both}
+use Rattle.pairs.specs.Rings as pairs
+use Rattle.tumbrelice.specs.Heard.{Worded, heardAt, heard2, Hears, Hears2, ringIn, ringOut, vectorIn, vectorOut, ringOf, vectorOf}
 
 -- the digits of a word
-pub worded : (m x k word : ℕ) → k < 16777216 → x < 4294967296 → word ≡ (m * 16777216 + k) * 4294967296 + x → Worded m x k word
+pub worded : (m x k word : ℕ) → k < 4096 → x < 4294967296 → word ≡ (m * 4096 + k) * 65536 * 4294967296 + x → Worded m x k word
 worded m x k word few fits e =
-    let high : word / 4294967296 ≡ m * 16777216 + k = ap (λ w. w / 4294967296) e ∙ digits-div (m * 16777216 + k) fits in
+    let low : word / 4294967296 ≡ (m * 4096 + k) * 65536 + 0 = ap (λ w. w / 4294967296) e ∙ digits-div ((m * 4096 + k) * 65536) fits ∙ omega arith in
+    let high : word / 4294967296 / 65536 ≡ m * 4096 + k = ap (λ w. w / 65536) low ∙ digits-div (m * 4096 + k) (omega arith) in
     record {
-      number = ap (λ w. w / 16777216) high ∙ digits-div m few;
-      value = ap (λ w. w % 4294967296) e ∙ digits-mod (m * 16777216 + k) fits;
-      moves = ap (λ w. w % 16777216) high ∙ digits-mod m few;
+      number = ap (λ w. w / 4096) high ∙ digits-div m few;
+      value = ap (λ w. w % 4294967296) e ∙ digits-mod ((m * 4096 + k) * 65536) fits;
+      moves = ap (λ w. w % 4096) high ∙ digits-mod m few;
+      free = ap (λ w. w % 65536) low ∙ digits-mod (m * 4096 + k) (omega arith);
     }
 
-one-small : (b : Bool) → one b ≤ 1
-unfolding one
-one-small true = omega arith
-one-small false = omega arith
+-- an answer fits a word
+abbrev Fits : (m moves : ℕ) → Type 0
+Fits m moves = (m < 16) × (moves < 4096)
 
-tally-small : (n : ℕ) (test : ℕ → Bool) → tally n test ≤ n
-unfolding tally
-tally-small zero test = omega arith
-tally-small (suc n) test = omega (arith, one-small (test zero), tally-small n (λ j. test (suc j)))
+pub fits-ring : (call : Call) (r : Ring) (s z : List ℕ) (a : ringAnswer.Answer) → has call ring ≡ true → rings.Meets call r s a z → Fits (a .number) (a .moves)
+fits-ring call r s z a of e = (
+  omega (arith, few-numbers ring call (rings.tray r s), ap (λ (o : Outcome). o .number) (e .row)),
+  omega (arith, few-moves ring call (rings.tray r s) of, ap (λ (o : Outcome). o .moves) (e .row)),
+)
 
-moved-small : (was now : ℕ → ℕ) (carry : ℕ → Carried) (n : ℕ) → moved was now carry n ≤ n
-unfolding moved
-moved-small was now carry n = tally-small n (λ j. elsewhere now (was j) (carry j))
+pub fits-vector : (call : Call) (v : Vector) (s z : List ℕ) (a : vectorAnswer.Answer) → has call vector ≡ true → vectors.Meets call v s a z
+    → Fits (a .number) (a .moves)
+fits-vector call v s z a of e = (
+  omega (arith, few-numbers vector call (vectors.tray v s), ap (λ (o : Outcome). o .number) (e .row)),
+  omega (arith, few-moves vector call (vectors.tray v s) of, ap (λ (o : Outcome). o .moves) (e .row)),
+)
 
-small : (k : Kind) (t : Tray) → invalid k t ≡ false → t .len ≤ 4096
-unfolding valid
-small ring t ok = let v = ring-facts (cap t) (t .head) (t .len) ok in omega arith
-small vector t ok = let v = vector-facts (cap t) (t .len) ok in omega arith
-
--- no call moves more entries than there are
-pub few-moves : (k : Kind) (call : Call) (t : Tray) → does k call t .moves ≤ 4096
-unfolding does
-few-moves k call t =
-    either (λ (o : Outcome). o .moves ≤ 4096) (refused t (rowOf k call t .given)) (refusalsOf k call t)
-    (done k t (after call (list k t)) (rowOf k call t))
-    (λ r. omega arith)
-    (λ clear. le-trans (moved-small (place k (cap t) (t .head)) (place k (cap t) (headIn k (rowOf k call t .head))) (rowOf k call t .carry) (t .len)) (small k t (clear .0)))
-
-pub fits : (m x moves : ℕ) (t′ t : Tray) (k : Kind) (call : Call) → record { number = m; value = x; moves = moves; tray = t′; cursor = nowhere } ≡ does k call t
-    → moves < 16777216
-fits m x moves t′ t k call e = omega (arith, few-moves k call t, ap (λ o. o .moves) e)
-
-pub fits2 : (m x moves : ℕ) (t′ t2′ t t2 : Tray) (k k2 : Kind) (call : Call2)
-    → record { number = m; value = x; moves = moves; first = t′; second = t2′; cursor = nowhere } ≡ does2 k k2 call t t2 → moves < 16777216
-fits2 m x moves t′ t2′ t t2 k k2 call e = omega (arith, moves-of2 k k2 call t t2, ap (λ o. o .moves) e)
+pub fits-two : (call : Call2) (r t : Ring) (s z s′ z′ : List ℕ) (a : Both) → pairs.Meets call r s t z a s′ z′ → Fits (a .number) (a .moves)
+fits-two call r t s z s′ z′ a e = (
+  omega (arith, few-numbers2 ring ring call (rings.tray r s) (rings.tray t z), ap (λ (o : Outcome2). o .number) (e .row)),
+  omega (arith, moves-of2 ring ring call (rings.tray r s) (rings.tray t z), ap (λ (o : Outcome2). o .moves) (e .row)),
+)
 
 -- what is heard of a call is what is seen of it
 pub heard-at : (m x k word : ℕ) (t : Tray) (u : Cursor) (o : Outcome) → Worded m x k word
     → record { number = m; value = x; moves = k; tray = t; cursor = u } ≡ o → heardAt word t u ≡ o
 heard-at m x k word t u o w e = cc
 
-pub heard-is : (m x k word : ℕ) (t : Tray) (o : Outcome) → Worded m x k word → record { number = m; value = x; moves = k; tray = t; cursor = nowhere } ≡ o → heard word t ≡ o
-heard-is m x k word t o w e = heard-at m x k word t nowhere o w e
-
-pub heard2-is : (m x k word : ℕ) (t t2 : Tray) (o : Outcome2) → Worded m x k word
+heard2-is : (m x k word : ℕ) (t t2 : Tray) (o : Outcome2) → Worded m x k word
     → record { number = m; value = x; moves = k; first = t; second = t2; cursor = nowhere } ≡ o → heard2 word t t2 ≡ o
 heard2-is m x k word t t2 o w e = cc
 
+-- THE RULES of the exported calls: the state goes in, the call meets its promise, the state comes out, and the answer is a word.
+pub ring-hears : (call : Call) (st st′ s s′ : List ℕ) (r : Ring) (a : ringAnswer.Answer) (word : ℕ) → r ≡ ringIn st → rings.Meets call r s a s′
+    → st′ ≡ ringOut (a .ring) → Worded (a .number) (a .value) (a .moves) word → Hears ring call (ringOf st s) word (ringOf st′ s′)
+ring-hears call st st′ s s′ r a word er e es w =
+    rw (← er, es) (record { row = heard-at _ _ _ word (rings.tray (a .ring) s′) nowhere _ w (e .row); free = w .free })
+
+pub vector-hears : (call : Call) (n n′ : ℕ) (s s′ : List ℕ) (v : Vector) (a : vectorAnswer.Answer) (word : ℕ) → v ≡ vectorIn n → vectors.Meets call v s a s′
+    → n′ ≡ vectorOut (a .vector) → Worded (a .number) (a .value) (a .moves) word → Hears vector call (vectorOf n s) word (vectorOf n′ s′)
+vector-hears call n n′ s s′ v a word ev e en w =
+    rw (← ev, en) (record { row = heard-at _ _ _ word (vectors.tray (a .vector) s′) nowhere _ w (e .row); free = w .free })
+
 -- a look leaves the container as it is, so a caller keeps the state that it gave
-look-still : (k : Kind) (q : Look) (t : Tray) → headIn k (t .head) ≡ t .head → does k (look q) t .tray ≡ t
+look-still : (k : Kind) (q : Look) (t : Tray) → Homed k t → does k (look q) t .tray ≡ t
 unfolding does
-look-still k q t none =
+look-still k q t home =
     either (λ (o : Outcome). o .tray ≡ t) (refused t (rowOf k (look q) t .given)) (refusalsOf k (look q) t)
     (done k t (after (look q) (list k t)) (rowOf k (look q) t))
     (λ r. refl)
-    (λ clear. ap (λ o. o .tray) (sym (done-is k t (look q) (clear .0) (clear .1)) ∙ sym (look-done k t _ (clear .0) q (clear .1) refl)) ∙ ap (λ h. record { head = h; len = t .len; slots = t .slots }) none)
+    (λ clear. ap (λ o. o .tray) (sym (done-is k t (look q) (clear .0) (clear .1)) ∙ sym (look-done k t _ (clear .0) home q (clear .1) refl)))
 
-pub looked-is : (m x k word : ℕ) (t′ t : Tray) (kind : Kind) (q : Look) → Worded m x k word
-    → record { number = m; value = x; moves = k; tray = t′; cursor = nowhere } ≡ does kind (look q) t → headIn kind (t .head) ≡ t .head → heard word t ≡ does kind (look q) t
-looked-is m x k word t′ t kind q w e none = heard-is m x k word t _ w (ap (λ t. record { number = m; value = x; moves = k; tray = t; cursor = nowhere }) (sym (look-still kind q t none) ∙ sym (ap (λ o. o .tray) e)) ∙ e)
+looked : (m x k word : ℕ) (t′ t : Tray) (kind : Kind) (q : Look) → Homed kind t → Worded m x k word
+    → record { number = m; value = x; moves = k; tray = t′; cursor = nowhere } ≡ does kind (look q) t → Hears kind (look q) t word t
+looked m x k word t′ t kind q home w e = record {
+  row =
+      heard-at m x k word t nowhere _ w
+      (ap (λ t. record { number = m; value = x; moves = k; tray = t; cursor = nowhere }) (sym (look-still kind q t home) ∙ sym (ap (λ o. o .tray) e)) ∙ e);
+  free = w .free;
+}
 
--- and so does clone the container that it copies
-clone-still : (k k2 : Kind) (t t2 : Tray) → does2 k k2 clone t t2 .first ≡ t
+pub ring-looked : (q : Look) (st s : List ℕ) (r : Ring) (a : ringAnswer.Answer) (word : ℕ) → r ≡ ringIn st → rings.Meets (look q) r s a s
+    → Worded (a .number) (a .value) (a .moves) word → Hears ring (look q) (ringOf st s) word (ringOf st s)
+ring-looked q st s r a word er e w = rw (← er) (looked _ _ _ word _ (rings.tray r s) ring q refl w (e .row))
+
+pub vector-looked : (q : Look) (n : ℕ) (s : List ℕ) (v : Vector) (a : vectorAnswer.Answer) (word : ℕ) → v ≡ vectorIn n → vectors.Meets (look q) v s a s
+    → Worded (a .number) (a .value) (a .moves) word → Hears vector (look q) (vectorOf n s) word (vectorOf n s)
+vector-looked q n s v a word ev e w = rw (← ev) (looked _ _ _ word _ (vectors.tray v s) vector q refl w (e .row))
+
+-- on two rings
+pub rings-hear : (call : Call2) (st ot st′ ot′ s z s′ z′ : List ℕ) (r t : Ring) (a : Both) (word : ℕ) → r ≡ ringIn st → t ≡ ringIn ot
+    → pairs.Meets call r s t z a s′ z′ → st′ ≡ ringOut (a .first) → ot′ ≡ ringOut (a .second) → Worded (a .number) (a .value) (a .moves) word
+    → Hears2 ring ring call (ringOf st s) (ringOf ot z) word (ringOf st′ s′) (ringOf ot′ z′)
+rings-hear call st ot st′ ot′ s z s′ z′ r t a word er et e es eo w =
+    rw (← er, ← et, es, eo) (record { row = heard2-is _ _ _ word (rings.tray (a .first) s′) (rings.tray (a .second) z′) _ w (e .row); free = w .free })
+
+-- clone leaves the container that it copies
+clone-still : (k k2 : Kind) (t t2 : Tray) → Homed k t → does2 k k2 clone t t2 .first ≡ t
 unfolding does2
-clone-still k k2 t t2 =
+clone-still k k2 t t2 home =
     either (λ (o : Outcome2). o .first ≡ t) (refused2 t t2 (rowOf2 k k2 clone t t2 .given)) (refusalsOf2 k k2 clone t t2)
     (done2 k k2 t t2 (after2 clone (list k t) (list k2 t2)) (rowOf2 k k2 clone t t2))
     (λ r. refl)
-    (λ clear. let same : relay k t (list k t) (t .head) ≡ record { head = t .head; len = t .len; slots = t .slots } = cc (many k t, as-it-was k t (clear .0)) in same)
+    (λ clear. let same : relay k t (list k t) (t .head) ≡ record { head = t .head; len = t .len; slots = t .slots } = cc (home, many k t, as-it-was k t (clear .0)) in same)
 
-pub cloned-is : (m x moves word : ℕ) (t′ t2′ t t2 : Tray) (k k2 : Kind) → Worded m x moves word
-    → record { number = m; value = x; moves = moves; first = t′; second = t2′; cursor = nowhere } ≡ does2 k k2 clone t t2 → heard2 word t t2′ ≡ does2 k k2 clone t t2
-cloned-is m x moves word t′ t2′ t t2 k k2 w e =
-    heard2-is m x moves word t t2′ _ w
-    (ap (λ t. record { number = m; value = x; moves = moves; first = t; second = t2′; cursor = nowhere }) (sym (clone-still k k2 t t2) ∙ sym (ap (λ o. o .first) e)) ∙ e)
+pub rings-cloned : (st ot ot′ s z z′ : List ℕ) (r t : Ring) (a : Both) (word : ℕ) → r ≡ ringIn st → t ≡ ringIn ot
+    → pairs.Meets clone r s t z a s z′ → ot′ ≡ ringOut (a .second) → Worded (a .number) (a .value) (a .moves) word
+    → Hears2 ring ring clone (ringOf st s) (ringOf ot z) word (ringOf st s) (ringOf ot′ z′)
+rings-cloned st ot ot′ s z z′ r t a word er et e eo w =
+    let kept : rings.tray (a .first) s ≡ rings.tray r s = ap (λ (o : Outcome2). o .first) (e .row) ∙ clone-still ring ring (rings.tray r s) (rings.tray t z) refl in
+    rw (← er, ← et, eo) (record {
+      row = heard2-is _ _ _ word (rings.tray r s) (rings.tray (a .second) z′) _ w (ap (λ t. record { number = a .number; value = a .value; moves = a .moves; first = t; second = rings.tray (a .second) z′; cursor = nowhere }) (sym kept) ∙ e .row);
+      free = w .free;
+    })

@@ -1,44 +1,82 @@
--- How a caller in C reads a call: the state is two numbers, or one, and the answer is one word.
+-- How a caller in C reads a call: the state is two numbers, or one, and the answer is one word; and what an exported call promises.
 use Prim.Native.Nat.{ℕ, _/_, _%_}
 use mathlib.Core.Path.{_≡_}
-use mathlib.Core.List.{List}
+use mathlib.Core.List.{List, [], _∷_}
 use lib.ListN.{getD}
+use Rattle.slots.specs.Layout.{Kind}
 use Rattle.table.specs.Tray.{Tray, Cursor, nowhere}
-use Rattle.table.specs.Does.{Outcome, Outcome2}
+use Rattle.table.specs.Calls.{Call, Call2, Look, look}
+use Rattle.table.specs.Does.{Outcome, Outcome2, does, does2}
+use Rattle.ring.specs.declared.Ring.{Ring}
+use Rattle.ring.specs.Seen as rings
+use Rattle.vector.specs.declared.Vector.{Vector}
+use Rattle.vector.specs.Seen as vectors
 
--- the value is the word's low 32 bits, the moves are the next 24, the number is the high 8
+-- the value is the word's low 32 bits, the next 16 are kept free, the moves are the next 12, the number is the high 4
 abbrev pub valueIn : ℕ → ℕ
 valueIn word = word % 4294967296
 
+abbrev pub freeIn : ℕ → ℕ
+freeIn word = word / 4294967296 % 65536
+
 abbrev pub movesIn : ℕ → ℕ
-movesIn word = word / 4294967296 % 16777216
+movesIn word = word / 4294967296 / 65536 % 4096
 
 abbrev pub numberIn : ℕ → ℕ
-numberIn word = word / 4294967296 / 16777216
+numberIn word = word / 4294967296 / 65536 / 4096
 
--- a ring's state is its head and its length, a vector's its length
+-- a ring's state is its head and its length, a vector's its length: how it goes in, and how it comes out
+abbrev pub ringIn : List ℕ → Ring
+ringIn state = rings.state (getD state 0 0) (getD state 1 0)
+
+abbrev pub ringOut : Ring → List ℕ
+ringOut r = r .head ∷ r .len ∷ []
+
+abbrev pub vectorIn : ℕ → Vector
+vectorIn state = vectors.state state
+
+abbrev pub vectorOut : Vector → ℕ
+vectorOut v = v .len
+
+-- a container, by its state and its slots
 abbrev pub ringOf : (state slots : List ℕ) → Tray
-ringOf state slots = record { head = getD state 0 0; len = getD state 1 0; slots = slots }
+ringOf state slots = rings.tray (ringIn state) slots
 
-abbrev pub vectorOf : (len : ℕ) (slots : List ℕ) → Tray
-vectorOf len slots = record { head = 0; len = len; slots = slots }
+abbrev pub vectorOf : (state : ℕ) (slots : List ℕ) → Tray
+vectorOf state slots = vectors.tray (vectorIn state) slots
 
 -- a cursor is its front and its back
 abbrev pub cursorOf : List ℕ → Cursor
 cursorOf numbers = record { front = getD numbers 0 0; back = getD numbers 1 0 }
 
+-- a word as an outcome: of a call with a cursor, without one, and on two containers
 abbrev pub heardAt : (word : ℕ) → Tray → Cursor → Outcome
 heardAt word t u = record { number = numberIn word; value = valueIn word; moves = movesIn word; tray = t; cursor = u }
 
--- a call that has no cursor
 abbrev pub heard : (word : ℕ) → Tray → Outcome
 heard word t = heardAt word t nowhere
 
 abbrev pub heard2 : (word : ℕ) → (t t2 : Tray) → Outcome2
 heard2 word t t2 = record { number = numberIn word; value = valueIn word; moves = movesIn word; first = t; second = t2; cursor = nowhere }
 
+-- The promise of an exported call: its word and the container afterwards are its row, and the free bits are 0.
+pub record Hears (k : Kind) (call : Call) (before : Tray) (word : ℕ) (after : Tray) : Type 0 where
+  pub row : heard word after ≡ does k call before
+  pub free : freeIn word ≡ 0
+
+-- of a step of a cursor, which comes to be u
+pub record HearsAt (k : Kind) (q : Look) (t : Tray) (word : ℕ) (u : Cursor) : Type 0 where
+  pub row : heardAt word t u ≡ does k (look q) t
+  pub free : freeIn word ≡ 0
+
+-- of a call on two
+pub record Hears2 (k k2 : Kind) (call : Call2) (before before2 : Tray) (word : ℕ) (after after2 : Tray) : Type 0 where
+  pub row : heard2 word after after2 ≡ does2 k k2 call before before2
+  pub free : freeIn word ≡ 0
+
 -- what the private function `word` makes
 pub record Worded (m x k word : ℕ) : Type 0 where
   pub number : numberIn word ≡ m
   pub value : valueIn word ≡ x
   pub moves : movesIn word ≡ k
+  pub free : freeIn word ≡ 0

@@ -1,13 +1,11 @@
 // A cursor over a ring: its front, then its back.
+use super::ring_in;
 use super::word;
 use cursors::Cursor;
 use cursors::Step;
-use ring::Ring;
-ghost use mathlib.Core.Path.{_≡_};
 ghost use Rattle.slots.specs.Layout.{ring};
-ghost use Rattle.table.specs.Calls.{look, stepFront};
-ghost use Rattle.table.specs.Does.{does};
-ghost use Rattle.tumbrelice.specs.Heard.{heardAt, ringOf, cursorOf};
+ghost use Rattle.table.specs.Calls.{stepFront};
+ghost use Rattle.tumbrelice.specs.Heard.{HearsAt, ringOf, cursorOf};
 
 #[no_mangle]
 pub extern "C" fn tum_ring_step_front(
@@ -15,12 +13,9 @@ pub extern "C" fn tum_ring_step_front(
     state: &[usize; 2],
     cursor: &mut [usize; 2],
 ) -> u64
-    ensures { λ r. ⌜ heardAt r (ringOf (now (state .entry)) (now (slots .entry))) (cursorOf (now (cursor .exit))) ≡ does ring (look (stepFront (cursorOf (now (cursor .entry))))) (ringOf (now (state .entry)) (now (slots .entry))) ⌝ }
+    ensures { λ r. ⌜ HearsAt ring (stepFront (cursorOf (now (cursor .entry)))) (ringOf (now (state .entry)) (now (slots .entry))) r (cursorOf (now (cursor .exit))) ⌝ }
 {
-    let r = Ring {
-        head: state[0],
-        len: state[1],
-    };
+    let r = ring_in(state);
     let u = Cursor {
         front: cursor[0],
         back: cursor[1],

@@ -1,87 +1,86 @@
 -- Each promise of this crate leaves one result: two that both meet it, with the slots as each leaves them, are the same.
 use Prim.Native.Nat.{ℕ}
-use mathlib.Core.Path.{_≡_, refl, sym, _∙_}
+use mathlib.Core.Path.{_≡_, refl}
 use mathlib.Core.List.{List}
 use contract.Lifetimes.{Lfts}
-use denote.Ref.{RefT, ptr, now}
-use denote.Triple.Clauses.{Ended, AtExit}
-use borrow.Fn.World.{ArgsD, ResD}
-use Rattle.table.specs.Parts.{Part}
+use denote.Ref.{ptr, now}
+use Rattle.table.specs.Calls.{Call, Making}
 use Rattle.table.specs.Does.{Outcome}
-use Rattle.table.proofs.Theorems.Unique.{one-answer}
+use Rattle.table.proofs.Theorems.Unique.{Twice, one-answer}
+use Rattle.vector.specs.declared.Vector.{Vector}
 use Rattle.vector.specs.declared.Answer.{Answer}
-use Rattle.vector.specs.Seen.{seen}
+use Rattle.vector.specs.Seen.{seen, Meets, Makes, state, says}
 use Rattle.table.proofs.Laws.Lending.{one-part}
 use Rattle.vector.proofs.Vector as fns
 
--- two results, and what is seen at exit with each, that both meet the promise of one function for the same arguments
-abbrev Twice : (f : Ended) (κs : Lfts (f .signature .lifetimes)) (learnt : ArgsD (f .signature) κs → ResD (f .signature) κs → AtExit f κs → Type 0)
-    (same : ResD (f .signature) κs → AtExit f κs → ResD (f .signature) κs → AtExit f κs → Type 0) → Type 0
-Twice f κs learnt same =
-    (a : ArgsD (f .signature) κs) (r r′ : ResD (f .signature) κs) (e e′ : AtExit f κs) → learnt a r e → learnt a r′ e′ → same r e r′ e′
+-- an answer is told by what is seen of it
+told-by : (o : Outcome) (r r′ : Answer) (s s′ : List ℕ) → seen r s ≡ o → seen r′ s′ ≡ o → (r ≡ r′) × (s ≡ s′)
+told-by = one-answer seen (λ o. says (o .number) (o .value) (o .moves) (state (o .tray .len))) (λ r s. refl) (λ r s. refl)
 
--- the promise of a call that bears a number is of the form `seen a slots ≡ o`
-pub unique : (o : Outcome) (a a′ : Answer) (s s′ : List ℕ) → seen a s ≡ o → seen a′ s′ ≡ o → (a ≡ a′) × (s ≡ s′)
-unique =
-    one-answer seen (λ o. record { number = o .number; value = o .value; moves = o .moves; vector = record { len = o .tray .len } }) (λ a s. refl) (λ a s. refl)
+-- every promise that bears a number is `Meets`, a making's `Makes`
+one : {call : Call} {v : Vector} {b : List ℕ} (r r′ : Answer) (s s′ : List ℕ) → Meets call v b r s → Meets call v b r′ s′ → (r ≡ r′) × (s ≡ s′)
+one r r′ s s′ p q = told-by _ r r′ s s′ (p .row) (q .row)
+
+one-made : {m : Making} {b : List ℕ} (r r′ : Answer) (s s′ : List ℕ) → Makes m b r s → Makes m b r′ s′ → (r ≡ r′) × (s ≡ s′)
+one-made r r′ s s′ p q = told-by _ r r′ s s′ (p .row) (q .row)
 
 module _ (κs : Lfts 1) where
   pub new-once : Twice fns.new.ended κs (fns.new.Reads.Learnt κs) (λ r e r′ e′. r ≡ r′)
-  new-once a r r′ e e′ l l′ = unique _ r r′ _ _ l l′ .0
+  new-once a r r′ e e′ l l′ = one-made r r′ _ _ l l′ .0
 
   pub with-capacity-once : Twice fns.with_capacity.ended κs (fns.with_capacity.Reads.Learnt κs) (λ r e r′ e′. r ≡ r′)
-  with-capacity-once a r r′ e e′ l l′ = unique _ r r′ _ _ l l′ .0
+  with-capacity-once a r r′ e e′ l l′ = one-made r r′ _ _ l l′ .0
 
   pub from-elem-once : Twice fns.from_elem.ended κs (fns.from_elem.Reads.Learnt κs) (λ r e r′ e′. (r ≡ r′) × (now (e .0) ≡ now (e′ .0)))
-  from-elem-once a r r′ e e′ = unique _ r r′ _ _
+  from-elem-once a r r′ e e′ = one-made r r′ _ _
 
   pub len-once : Twice fns.len.ended κs (fns.len.Reads.Learnt κs) (λ r e r′ e′. r ≡ r′)
-  len-once a r r′ e e′ l l′ = unique _ r r′ _ _ l l′ .0
+  len-once a r r′ e e′ l l′ = one r r′ _ _ l l′ .0
 
   pub is-empty-once : Twice fns.is_empty.ended κs (fns.is_empty.Reads.Learnt κs) (λ r e r′ e′. r ≡ r′)
-  is-empty-once a r r′ e e′ l l′ = unique _ r r′ _ _ l l′ .0
+  is-empty-once a r r′ e e′ l l′ = one r r′ _ _ l l′ .0
 
   pub read-once : Twice fns.read.ended κs (fns.read.Reads.Learnt κs) (λ r e r′ e′. r ≡ r′)
-  read-once a r r′ e e′ l l′ = unique _ r r′ _ _ l l′ .0
+  read-once a r r′ e e′ l l′ = one r r′ _ _ l l′ .0
 
   pub reserve-once : Twice fns.reserve.ended κs (fns.reserve.Reads.Learnt κs) (λ r e r′ e′. r ≡ r′)
-  reserve-once a r r′ e e′ l l′ = unique _ r r′ _ _ l l′ .0
+  reserve-once a r r′ e e′ l l′ = one r r′ _ _ l l′ .0
 
   pub try-reserve-once : Twice fns.try_reserve.ended κs (fns.try_reserve.Reads.Learnt κs) (λ r e r′ e′. r ≡ r′)
-  try-reserve-once a r r′ e e′ l l′ = unique _ r r′ _ _ l l′ .0
+  try-reserve-once a r r′ e e′ l l′ = one r r′ _ _ l l′ .0
 
   pub try-reserve-exact-once : Twice fns.try_reserve_exact.ended κs (fns.try_reserve_exact.Reads.Learnt κs) (λ r e r′ e′. r ≡ r′)
-  try-reserve-exact-once a r r′ e e′ l l′ = unique _ r r′ _ _ l l′ .0
+  try-reserve-exact-once a r r′ e e′ l l′ = one r r′ _ _ l l′ .0
 
   pub ask-range-once : Twice fns.ask_range.ended κs (fns.ask_range.Reads.Learnt κs) (λ r e r′ e′. r ≡ r′)
-  ask-range-once a r r′ e e′ l l′ = unique _ r r′ _ _ l l′ .0
+  ask-range-once a r r′ e e′ l l′ = one r r′ _ _ l l′ .0
 
   pub write-once : Twice fns.write.ended κs (fns.write.Reads.Learnt κs) (λ r e r′ e′. (r ≡ r′) × (now (e .1 .0) ≡ now (e′ .1 .0)))
-  write-once a r r′ e e′ = unique _ r r′ _ _
+  write-once a r r′ e e′ = one r r′ _ _
 
   pub push-once : Twice fns.push.ended κs (fns.push.Reads.Learnt κs) (λ r e r′ e′. (r ≡ r′) × (now (e .1 .0) ≡ now (e′ .1 .0)))
-  push-once a r r′ e e′ = unique _ r r′ _ _
+  push-once a r r′ e e′ = one r r′ _ _
 
   pub pop-once : Twice fns.pop.ended κs (fns.pop.Reads.Learnt κs) (λ r e r′ e′. (r ≡ r′) × (now (e .1 .0) ≡ now (e′ .1 .0)))
-  pop-once a r r′ e e′ = unique _ r r′ _ _
+  pop-once a r r′ e e′ = one r r′ _ _
 
   pub insert-once : Twice fns.insert.ended κs (fns.insert.Reads.Learnt κs) (λ r e r′ e′. (r ≡ r′) × (now (e .1 .0) ≡ now (e′ .1 .0)))
-  insert-once a r r′ e e′ = unique _ r r′ _ _
+  insert-once a r r′ e e′ = one r r′ _ _
 
   pub remove-once : Twice fns.remove.ended κs (fns.remove.Reads.Learnt κs) (λ r e r′ e′. (r ≡ r′) × (now (e .1 .0) ≡ now (e′ .1 .0)))
-  remove-once a r r′ e e′ = unique _ r r′ _ _
+  remove-once a r r′ e e′ = one r r′ _ _
 
   pub swap-remove-once : Twice fns.swap_remove.ended κs (fns.swap_remove.Reads.Learnt κs) (λ r e r′ e′. (r ≡ r′) × (now (e .1 .0) ≡ now (e′ .1 .0)))
-  swap-remove-once a r r′ e e′ = unique _ r r′ _ _
+  swap-remove-once a r r′ e e′ = one r r′ _ _
 
   pub truncate-once : Twice fns.truncate.ended κs (fns.truncate.Reads.Learnt κs) (λ r e r′ e′. (r ≡ r′) × (now (e .1 .0) ≡ now (e′ .1 .0)))
-  truncate-once a r r′ e e′ = unique _ r r′ _ _
+  truncate-once a r r′ e e′ = one r r′ _ _
 
   pub resize-once : Twice fns.resize.ended κs (fns.resize.Reads.Learnt κs) (λ r e r′ e′. (r ≡ r′) × (now (e .1 .0) ≡ now (e′ .1 .0)))
-  resize-once a r r′ e e′ = unique _ r r′ _ _
+  resize-once a r r′ e e′ = one r r′ _ _
 
   pub clear-once : Twice fns.clear.ended κs (fns.clear.Reads.Learnt κs) (λ r e r′ e′. (r ≡ r′) × (now (e .1 .0) ≡ now (e′ .1 .0)))
-  clear-once a r r′ e e′ = unique _ r r′ _ _
+  clear-once a r r′ e e′ = one r r′ _ _
 
   pub range-once : Twice fns.range.ended κs (fns.range.Reads.Learnt κs) (λ r e r′ e′. (ptr r ≡ ptr r′) × (now r ≡ now r′))
   range-once a r r′ e e′ = one-part _ _ _ r r′
@@ -103,4 +102,4 @@ module _ (κs : Lfts 1) where
 
 module _ (κs : Lfts 2) where
   pub extend-from-slice-once : Twice fns.extend_from_slice.ended κs (fns.extend_from_slice.Reads.Learnt κs) (λ r e r′ e′. (r ≡ r′) × (now (e .1 .0) ≡ now (e′ .1 .0)))
-  extend-from-slice-once a r r′ e e′ = unique _ r r′ _ _
+  extend-from-slice-once a r r′ e e′ = one r r′ _ _

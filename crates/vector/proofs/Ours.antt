@@ -17,82 +17,82 @@ use Rattle.vector.proofs.Vector as fns
 module _ (w : World) (κs : Lfts 1) where
   pub new-ours : (a : ArgsD fns.new.signature κs) (r : ResD fns.new.signature κs) (e : AtExit fns.new.ended κs)
       → fns.new.Reads.Learnt κs a r e → Ours w (make vector new (now (a .0)) (seen r (now (a .0))))
-  new-ours a r e learnt = ours-make w _ _ _ _ refl learnt
+  new-ours a r e learnt = ours-make w _ _ _ _ refl (learnt .row)
 
   pub with-capacity-ours : (a : ArgsD fns.with_capacity.signature κs) (r : ResD fns.with_capacity.signature κs) (e : AtExit fns.with_capacity.ended κs)
       → fns.with_capacity.Reads.Learnt κs a r e → Ours w (make vector (withCapacity (a .1 .0)) (now (a .0)) (seen r (now (a .0))))
-  with-capacity-ours a r e learnt = ours-make w _ _ _ _ refl learnt
+  with-capacity-ours a r e learnt = ours-make w _ _ _ _ refl (learnt .row)
 
   pub from-elem-ours : (a : ArgsD fns.from_elem.signature κs) (r : ResD fns.from_elem.signature κs) (e : AtExit fns.from_elem.ended κs)
       → fns.from_elem.Reads.Learnt κs a r e → Ours w (make vector (fromElem (a .1 .0) (a .1 .1 .0)) (now (a .0)) (seen r (now (e .0))))
-  from-elem-ours a r e learnt = ours-make w _ _ _ _ refl learnt
+  from-elem-ours a r e learnt = ours-make w _ _ _ _ refl (learnt .row)
 
 module _ (w : World) (i : ℕ) (κs : Lfts 1) where
   pub len-ours : (a : ArgsD fns.len.signature κs) (r : ResD fns.len.signature κs) (e : AtExit fns.len.ended κs)
       → Is w i vector (tray (a .0) (now (a .1 .0))) → fns.len.Reads.Learnt κs a r e → Ours w (on i (look len) (seen r (now (a .1 .0))))
-  len-ours a r e is learnt = ours-on w i _ _ _ _ refl is learnt
+  len-ours a r e is learnt = ours-on w i _ _ _ _ refl is (learnt .row)
 
   pub is-empty-ours : (a : ArgsD fns.is_empty.signature κs) (r : ResD fns.is_empty.signature κs) (e : AtExit fns.is_empty.ended κs)
       → Is w i vector (tray (a .0) (now (a .1 .0))) → fns.is_empty.Reads.Learnt κs a r e → Ours w (on i (look isEmpty) (seen r (now (a .1 .0))))
-  is-empty-ours a r e is learnt = ours-on w i _ _ _ _ refl is learnt
+  is-empty-ours a r e is learnt = ours-on w i _ _ _ _ refl is (learnt .row)
 
   pub read-ours : (a : ArgsD fns.read.signature κs) (r : ResD fns.read.signature κs) (e : AtExit fns.read.ended κs)
       → Is w i vector (tray (a .0) (now (a .1 .0))) → fns.read.Reads.Learnt κs a r e → Ours w (on i (look (read (a .1 .1 .0))) (seen r (now (a .1 .0))))
-  read-ours a r e is learnt = ours-on w i _ _ _ _ refl is learnt
+  read-ours a r e is learnt = ours-on w i _ _ _ _ refl is (learnt .row)
 
   pub reserve-ours : (a : ArgsD fns.reserve.signature κs) (r : ResD fns.reserve.signature κs) (e : AtExit fns.reserve.ended κs)
       → Is w i vector (tray (a .0) (now (a .1 .0))) → fns.reserve.Reads.Learnt κs a r e → Ours w (on i (look (reserve (a .1 .1 .0))) (seen r (now (a .1 .0))))
-  reserve-ours a r e is learnt = ours-on w i _ _ _ _ refl is learnt
+  reserve-ours a r e is learnt = ours-on w i _ _ _ _ refl is (learnt .row)
 
   pub try-reserve-ours : (a : ArgsD fns.try_reserve.signature κs) (r : ResD fns.try_reserve.signature κs) (e : AtExit fns.try_reserve.ended κs)
       → Is w i vector (tray (a .0) (now (a .1 .0))) → fns.try_reserve.Reads.Learnt κs a r e → Ours w (on i (look (tryReserve (a .1 .1 .0))) (seen r (now (a .1 .0))))
-  try-reserve-ours a r e is learnt = ours-on w i _ _ _ _ refl is learnt
+  try-reserve-ours a r e is learnt = ours-on w i _ _ _ _ refl is (learnt .row)
 
   pub try-reserve-exact-ours : (a : ArgsD fns.try_reserve_exact.signature κs) (r : ResD fns.try_reserve_exact.signature κs) (e : AtExit fns.try_reserve_exact.ended κs)
       → Is w i vector (tray (a .0) (now (a .1 .0))) → fns.try_reserve_exact.Reads.Learnt κs a r e → Ours w (on i (look (tryReserveExact (a .1 .1 .0))) (seen r (now (a .1 .0))))
-  try-reserve-exact-ours a r e is learnt = ours-on w i _ _ _ _ refl is learnt
+  try-reserve-exact-ours a r e is learnt = ours-on w i _ _ _ _ refl is (learnt .row)
 
   pub ask-range-ours : (a : ArgsD fns.ask_range.signature κs) (r : ResD fns.ask_range.signature κs) (e : AtExit fns.ask_range.ended κs)
       → Is w i vector (tray (a .0) (now (a .1 .0))) → fns.ask_range.Reads.Learnt κs a r e → Ours w (on i (look (range (a .1 .1 .0) (a .1 .1 .1 .0))) (seen r (now (a .1 .0))))
-  ask-range-ours a r e is learnt = ours-on w i _ _ _ _ refl is learnt
+  ask-range-ours a r e is learnt = ours-on w i _ _ _ _ refl is (learnt .row)
 
   pub write-ours : (a : ArgsD fns.write.signature κs) (r : ResD fns.write.signature κs) (e : AtExit fns.write.ended κs)
       → Is w i vector (tray (a .0) (now (a .1 .0))) → fns.write.Reads.Learnt κs a r e → Ours w (on i (write (a .1 .1 .0) (a .1 .1 .1 .0)) (seen r (now (e .1 .0))))
-  write-ours a r e is learnt = ours-on w i _ _ _ _ refl is learnt
+  write-ours a r e is learnt = ours-on w i _ _ _ _ refl is (learnt .row)
 
   pub push-ours : (a : ArgsD fns.push.signature κs) (r : ResD fns.push.signature κs) (e : AtExit fns.push.ended κs)
       → Is w i vector (tray (a .0) (now (a .1 .0))) → fns.push.Reads.Learnt κs a r e → Ours w (on i (push (a .1 .1 .0)) (seen r (now (e .1 .0))))
-  push-ours a r e is learnt = ours-on w i _ _ _ _ refl is learnt
+  push-ours a r e is learnt = ours-on w i _ _ _ _ refl is (learnt .row)
 
   pub pop-ours : (a : ArgsD fns.pop.signature κs) (r : ResD fns.pop.signature κs) (e : AtExit fns.pop.ended κs)
       → Is w i vector (tray (a .0) (now (a .1 .0))) → fns.pop.Reads.Learnt κs a r e → Ours w (on i pop (seen r (now (e .1 .0))))
-  pop-ours a r e is learnt = ours-on w i _ _ _ _ refl is learnt
+  pop-ours a r e is learnt = ours-on w i _ _ _ _ refl is (learnt .row)
 
   pub insert-ours : (a : ArgsD fns.insert.signature κs) (r : ResD fns.insert.signature κs) (e : AtExit fns.insert.ended κs)
       → Is w i vector (tray (a .0) (now (a .1 .0))) → fns.insert.Reads.Learnt κs a r e → Ours w (on i (insert (a .1 .1 .0) (a .1 .1 .1 .0)) (seen r (now (e .1 .0))))
-  insert-ours a r e is learnt = ours-on w i _ _ _ _ refl is learnt
+  insert-ours a r e is learnt = ours-on w i _ _ _ _ refl is (learnt .row)
 
   pub remove-ours : (a : ArgsD fns.remove.signature κs) (r : ResD fns.remove.signature κs) (e : AtExit fns.remove.ended κs)
       → Is w i vector (tray (a .0) (now (a .1 .0))) → fns.remove.Reads.Learnt κs a r e → Ours w (on i (remove (a .1 .1 .0)) (seen r (now (e .1 .0))))
-  remove-ours a r e is learnt = ours-on w i _ _ _ _ refl is learnt
+  remove-ours a r e is learnt = ours-on w i _ _ _ _ refl is (learnt .row)
 
   pub swap-remove-ours : (a : ArgsD fns.swap_remove.signature κs) (r : ResD fns.swap_remove.signature κs) (e : AtExit fns.swap_remove.ended κs)
       → Is w i vector (tray (a .0) (now (a .1 .0))) → fns.swap_remove.Reads.Learnt κs a r e → Ours w (on i (swapRemove (a .1 .1 .0)) (seen r (now (e .1 .0))))
-  swap-remove-ours a r e is learnt = ours-on w i _ _ _ _ refl is learnt
+  swap-remove-ours a r e is learnt = ours-on w i _ _ _ _ refl is (learnt .row)
 
   pub truncate-ours : (a : ArgsD fns.truncate.signature κs) (r : ResD fns.truncate.signature κs) (e : AtExit fns.truncate.ended κs)
       → Is w i vector (tray (a .0) (now (a .1 .0))) → fns.truncate.Reads.Learnt κs a r e → Ours w (on i (truncate (a .1 .1 .0)) (seen r (now (e .1 .0))))
-  truncate-ours a r e is learnt = ours-on w i _ _ _ _ refl is learnt
+  truncate-ours a r e is learnt = ours-on w i _ _ _ _ refl is (learnt .row)
 
   pub resize-ours : (a : ArgsD fns.resize.signature κs) (r : ResD fns.resize.signature κs) (e : AtExit fns.resize.ended κs)
       → Is w i vector (tray (a .0) (now (a .1 .0))) → fns.resize.Reads.Learnt κs a r e → Ours w (on i (resize (a .1 .1 .0) (a .1 .1 .1 .0)) (seen r (now (e .1 .0))))
-  resize-ours a r e is learnt = ours-on w i _ _ _ _ refl is learnt
+  resize-ours a r e is learnt = ours-on w i _ _ _ _ refl is (learnt .row)
 
   pub clear-ours : (a : ArgsD fns.clear.signature κs) (r : ResD fns.clear.signature κs) (e : AtExit fns.clear.ended κs)
       → Is w i vector (tray (a .0) (now (a .1 .0))) → fns.clear.Reads.Learnt κs a r e → Ours w (on i clear (seen r (now (e .1 .0))))
-  clear-ours a r e is learnt = ours-on w i _ _ _ _ refl is learnt
+  clear-ours a r e is learnt = ours-on w i _ _ _ _ refl is (learnt .row)
 
 module _ (w : World) (i : ℕ) (κs : Lfts 2) where
   pub extend-from-slice-ours : (a : ArgsD fns.extend_from_slice.signature κs) (r : ResD fns.extend_from_slice.signature κs) (e : AtExit fns.extend_from_slice.ended κs)
       → Is w i vector (tray (a .0) (now (a .1 .0))) → fns.extend_from_slice.Reads.Learnt κs a r e → Ours w (on i (extend (now (a .1 .1 .0))) (seen r (now (e .1 .0))))
-  extend-from-slice-ours a r e is learnt = ours-on w i _ _ _ _ refl is learnt
+  extend-from-slice-ours a r e is learnt = ours-on w i _ _ _ _ refl is (learnt .row)

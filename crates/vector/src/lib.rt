@@ -3,10 +3,8 @@ pub mod looks; // looks.rt: the makings, and the calls that change nothing
 pub mod parts; // parts.rt: the parts of the slots that are lent on
 
 ghost use mathlib.Core.Path.{_≡_};
-ghost use Rattle.slots.specs.Layout.{vector};
 ghost use Rattle.table.specs.Calls.{write, push, pop, insert, remove, swapRemove, truncate, resize, clear, extend};
-ghost use Rattle.table.specs.Does.{does};
-ghost use Rattle.vector.specs.Seen.{tray, seen, refusing, giving};
+ghost use Rattle.vector.specs.Seen.{Meets, state, says};
 
 pub struct Vector {
     pub len: usize,
@@ -21,11 +19,11 @@ pub struct Answer {
 
 impl Vector {
     pub fn write(self, slots: &mut [u32], i: usize, x: u32) -> Answer
-        ensures { λ r. ⌜ seen r (now (slots .exit)) ≡ does vector (write i x) (tray self (now (slots .entry))) ⌝ }
+        ensures { λ r. ⌜ Meets (write i x) self (now (slots .entry)) r (now (slots .exit)) ⌝ }
     {
         let cap = slots.len();
         let len = self.len;
-        if table::vector_lacks(cap, len, i) {
+        if table::invalid_vector_or_beyond(cap, len, i) {
             if table::invalid_vector(cap, len) {
                 return refused(1, self);
             }
@@ -33,15 +31,15 @@ impl Vector {
         }
         let old = slots[i];
         slots[i] = x;
-        done(old, 0, len)
+        shows(old, self)
     }
 
     pub fn push(self, slots: &mut [u32], x: u32) -> Answer
-        ensures { λ r. ⌜ seen r (now (slots .exit)) ≡ does vector (push x) (tray self (now (slots .entry))) ⌝ }
+        ensures { λ r. ⌜ Meets (push x) self (now (slots .entry)) r (now (slots .exit)) ⌝ }
     {
         let cap = slots.len();
         let len = self.len;
-        if table::vector_full(cap, len) {
+        if table::invalid_vector_or_full(cap, len) {
             if table::invalid_vector(cap, len) {
                 return refused(1, self);
             }
@@ -52,11 +50,11 @@ impl Vector {
     }
 
     pub fn pop(self, slots: &mut [u32]) -> Answer
-        ensures { λ r. ⌜ seen r (now (slots .exit)) ≡ does vector pop (tray self (now (slots .entry))) ⌝ }
+        ensures { λ r. ⌜ Meets pop self (now (slots .entry)) r (now (slots .exit)) ⌝ }
     {
         let cap = slots.len();
         let len = self.len;
-        if table::vector_lacks(cap, len, 0) {
+        if table::invalid_vector_or_beyond(cap, len, 0) {
             if table::invalid_vector(cap, len) {
                 return refused(1, self);
             }
@@ -69,7 +67,7 @@ impl Vector {
     }
 
     pub fn insert(self, slots: &mut [u32], i: usize, x: u32) -> Answer
-        ensures { λ r. ⌜ seen r (now (slots .exit)) ≡ does vector (insert i x) (tray self (now (slots .entry))) ⌝ }
+        ensures { λ r. ⌜ Meets (insert i x) self (now (slots .entry)) r (now (slots .exit)) ⌝ }
     {
         let cap = slots.len();
         let len = self.len;
@@ -88,11 +86,11 @@ impl Vector {
     }
 
     pub fn remove(self, slots: &mut [u32], i: usize) -> Answer
-        ensures { λ r. ⌜ seen r (now (slots .exit)) ≡ does vector (remove i) (tray self (now (slots .entry))) ⌝ }
+        ensures { λ r. ⌜ Meets (remove i) self (now (slots .entry)) r (now (slots .exit)) ⌝ }
     {
         let cap = slots.len();
         let len = self.len;
-        if table::vector_lacks(cap, len, i) {
+        if table::invalid_vector_or_beyond(cap, len, i) {
             if table::invalid_vector(cap, len) {
                 return refused(1, self);
             }
@@ -107,11 +105,11 @@ impl Vector {
 
     // The last entry, where it is the one removed, is not stored back.
     pub fn swap_remove(self, slots: &mut [u32], i: usize) -> Answer
-        ensures { λ r. ⌜ seen r (now (slots .exit)) ≡ does vector (swapRemove i) (tray self (now (slots .entry))) ⌝ }
+        ensures { λ r. ⌜ Meets (swapRemove i) self (now (slots .entry)) r (now (slots .exit)) ⌝ }
     {
         let cap = slots.len();
         let len = self.len;
-        if table::vector_lacks(cap, len, i) {
+        if table::invalid_vector_or_beyond(cap, len, i) {
             if table::invalid_vector(cap, len) {
                 return refused(1, self);
             }
@@ -129,7 +127,7 @@ impl Vector {
     }
 
     pub fn truncate(self, slots: &mut [u32], k: usize) -> Answer
-        ensures { λ r. ⌜ seen r (now (slots .exit)) ≡ does vector (truncate k) (tray self (now (slots .entry))) ⌝ }
+        ensures { λ r. ⌜ Meets (truncate k) self (now (slots .entry)) r (now (slots .exit)) ⌝ }
     {
         let cap = slots.len();
         let len = self.len;
@@ -137,14 +135,14 @@ impl Vector {
             return refused(1, self);
         }
         if len <= k {
-            return done(0, 0, len);
+            return shows(0, self);
         }
         runs::run_fill(slots, k, len, 0);
         done(0, 0, k)
     }
 
     pub fn resize(self, slots: &mut [u32], k: usize, x: u32) -> Answer
-        ensures { λ r. ⌜ seen r (now (slots .exit)) ≡ does vector (resize k x) (tray self (now (slots .entry))) ⌝ }
+        ensures { λ r. ⌜ Meets (resize k x) self (now (slots .entry)) r (now (slots .exit)) ⌝ }
     {
         let cap = slots.len();
         let len = self.len;
@@ -163,7 +161,7 @@ impl Vector {
     }
 
     pub fn clear(self, slots: &mut [u32]) -> Answer
-        ensures { λ r. ⌜ seen r (now (slots .exit)) ≡ does vector clear (tray self (now (slots .entry))) ⌝ }
+        ensures { λ r. ⌜ Meets clear self (now (slots .entry)) r (now (slots .exit)) ⌝ }
     {
         let cap = slots.len();
         let len = self.len;
@@ -176,7 +174,7 @@ impl Vector {
 
     // The free slots are counted, not the sum of both, which could wrap.
     pub fn extend_from_slice(self, slots: &mut [u32], s: &[u32]) -> Answer
-        ensures { λ r. ⌜ seen r (now (slots .exit)) ≡ does vector (extend (now (s .entry))) (tray self (now (slots .entry))) ⌝ }
+        ensures { λ r. ⌜ Meets (extend (now (s .entry))) self (now (slots .entry)) r (now (slots .exit)) ⌝ }
     {
         let cap = slots.len();
         let len = self.len;
@@ -192,24 +190,42 @@ impl Vector {
     }
 }
 
-fn refused(number: u8, vector: Vector) -> Answer
-    ensures { λ r. ⌜ r ≡ refusing number vector ⌝ }
+// The state with this length: every state of a vector is put together here.
+pub fn state(len: usize) -> Vector
+    ensures { λ r. ⌜ r ≡ state len ⌝ }
+{
+    Vector { len }
+}
+
+// Every answer is put together here.
+fn says(number: u8, value: u32, moves: usize, vector: Vector) -> Answer
+    ensures { λ r. ⌜ r ≡ says number value moves vector ⌝ }
 {
     Answer {
         number,
-        value: 0,
-        moves: 0,
+        value,
+        moves,
         vector,
     }
 }
 
-fn done(value: u32, moves: usize, len: usize) -> Answer
-    ensures { λ r. ⌜ r ≡ giving value moves len ⌝ }
+// A refused call gives back the state that it got.
+pub fn refused(number: u8, vector: Vector) -> Answer
+    ensures { λ r. ⌜ r ≡ says number 0 0 vector ⌝ }
 {
-    Answer {
-        number: 0,
-        value,
-        moves,
-        vector: Vector { len },
-    }
+    says(number, 0, 0, vector)
+}
+
+// So does a call that is done and leaves the state.
+pub fn shows(value: u32, vector: Vector) -> Answer
+    ensures { λ r. ⌜ r ≡ says 0 value 0 vector ⌝ }
+{
+    says(0, value, 0, vector)
+}
+
+// A call that is done, with the length afterwards.
+pub fn done(value: u32, moves: usize, len: usize) -> Answer
+    ensures { λ r. ⌜ r ≡ says 0 value moves (state len) ⌝ }
+{
+    says(0, value, moves, state(len))
 }

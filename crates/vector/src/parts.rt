@@ -15,10 +15,7 @@ impl Vector {
         if table::invalid_vector(cap, len) {
             return &slots[0..0];
         }
-        if b < a {
-            return &slots[0..0];
-        }
-        if len < b {
+        if table::astray(a, b, len) {
             return &slots[0..0];
         }
         &slots[a..b]

@@ -18,9 +18,9 @@ use Rattle.slots.proofs.Fills.{fill-none, relaid-take}
 use Rattle.slots.proofs.Lays.{relaid-append, relaid-clear, fill-lays}
 use Rattle.table.specs.Tray.{Tray, cap, list, invalid}
 use Rattle.table.specs.Calls.{truncate, resize, clear, extend}
-use Rattle.table.specs.Does.{Outcome, gives, headIn, does}
+use Rattle.table.specs.Does.{Outcome, gives, headAfter, does}
 use Rattle.table.proofs.Laws.Valid.{fit}
-use Rattle.table.proofs.Laws.Done.{done-is, no-head, many, still, as-it-was, same-place, same-pos}
+use Rattle.table.proofs.Laws.Done.{Homed, done-is, no-head, many, still, as-it-was, same-place, same-pos}
 
 module _ (k : Kind) (t : Tray) (o : Outcome) (ok : invalid k t ≡ false) where
   keeps : (i : ℕ) → moved (place k (cap t) (t .head)) (place k (cap t) (t .head)) (kept i) (t .len) ≡ 0
@@ -33,12 +33,12 @@ module _ (k : Kind) (t : Tray) (o : Outcome) (ok : invalid k t ≡ false) where
   cut : (i : ℕ) → i < t .len → length (take i (list k t)) ≡ i
   cut i h = simp (length-take, many k t) (omega arith)
 
-  pub truncate-same-done : (i : ℕ) → t .len ≤ i → o ≡ gives 0 0 (headIn k (t .head)) (t .len) (t .slots) → o ≡ does k (truncate i) t
-  truncate-same-done i h eo =
-      cc (eo, done-is k t (truncate i) ok tt, whole i h, many k t, keeps i, as-it-was k t ok, same-place k (cap t) (t .head), same-pos k (cap t) (t .head))
+  pub truncate-same-done : Homed k t → (i : ℕ) → t .len ≤ i → o ≡ gives 0 0 (t .head) (t .len) (t .slots) → o ≡ does k (truncate i) t
+  truncate-same-done home i h eo =
+      cc (eo, home, done-is k t (truncate i) ok tt, whole i h, many k t, keeps i, as-it-was k t ok)
 
   pub truncate-done : (i : ℕ) (u : List ℕ) → i < t .len → Filled (place k (cap t) (t .head)) i (t .len) 0 (t .slots) u
-      → o ≡ gives 0 0 (headIn k (t .head)) i u → o ≡ does k (truncate i) t
+      → o ≡ gives 0 0 (headAfter k i (t .head)) i u → o ≡ does k (truncate i) t
   truncate-done i u h m eo =
       let f = fit k t ok in
       cc (
@@ -47,13 +47,13 @@ module _ (k : Kind) (t : Tray) (o : Outcome) (ok : invalid k t ≡ false) where
         cut i h,
         keeps i,
         relaid-take _ _ (t .len) i (t .slots) u (f .placed) (f .fits) (omega arith) m,
-        same-place k (cap t) (t .head),
-        same-pos k (cap t) (t .head),
+        same-place k (cap t) i (t .head),
+        same-pos k (cap t) i (t .head),
       )
 
   -- resize to fewer, to more, to as many
   pub resize-cut-done : (i x : ℕ) (u : List ℕ) → i ≤ cap t → i < t .len → Filled (place k (cap t) (t .head)) i (t .len) 0 (t .slots) u
-      → o ≡ gives 0 0 (headIn k (t .head)) i u → o ≡ does k (resize i x) t
+      → o ≡ gives 0 0 (headAfter k i (t .head)) i u → o ≡ does k (resize i x) t
   resize-cut-done i x u fits h m eo =
       let f = fit k t ok in
       let no-more : i - length (list k t) ≡ 0 = omega (arith, many k t) in
@@ -65,12 +65,12 @@ module _ (k : Kind) (t : Tray) (o : Outcome) (ok : invalid k t ≡ false) where
         append-nil (take i (list k t)),
         keeps i,
         relaid-take _ _ (t .len) i (t .slots) u (f .placed) (f .fits) (omega arith) m,
-        same-place k (cap t) (t .head),
-        same-pos k (cap t) (t .head),
+        same-place k (cap t) i (t .head),
+        same-pos k (cap t) i (t .head),
       )
 
   pub resize-more-done : (i x : ℕ) (u : List ℕ) → i ≤ cap t → t .len < i → Filled (place k (cap t) (t .head)) (t .len) i x (t .slots) u
-      → o ≡ gives 0 0 (headIn k (t .head)) i u → o ≡ does k (resize i x) t
+      → o ≡ gives 0 0 (headAfter k i (t .head)) i u → o ≡ does k (resize i x) t
   resize-more-done i x u fits h m eo =
       let f = fit k t ok in
       let more : ℕ = i - t .len in
@@ -85,15 +85,16 @@ module _ (k : Kind) (t : Tray) (o : Outcome) (ok : invalid k t ≡ false) where
         keeps i,
         relaid-append _ _ (t .len) more (replicate more x) (t .slots) u (f .placed) (length-replicate more x) (omega arith)
             (fill-lays _ (t .len) more x (t .slots) u (rw sum m)),
-        same-place k (cap t) (t .head),
-        same-pos k (cap t) (t .head),
+        same-place k (cap t) i (t .head),
+        same-pos k (cap t) i (t .head),
       )
 
-  pub resize-same-done : (i x : ℕ) → i ≤ cap t → t .len ≤ i → i ≤ t .len → o ≡ gives 0 0 (headIn k (t .head)) (t .len) (t .slots) → o ≡ does k (resize i x) t
-  resize-same-done i x fits h le eo =
+  pub resize-same-done : Homed k t → (i x : ℕ) → i ≤ cap t → t .len ≤ i → i ≤ t .len → o ≡ gives 0 0 (t .head) (t .len) (t .slots) → o ≡ does k (resize i x) t
+  resize-same-done home i x fits h le eo =
       let no-more : i - length (list k t) ≡ 0 = omega (arith, many k t) in
       cc (
         eo,
+        home,
         done-is k t (resize i x) ok (le-ltb _ _ fits, tt),
         whole i h,
         no-more,
@@ -101,8 +102,6 @@ module _ (k : Kind) (t : Tray) (o : Outcome) (ok : invalid k t ≡ false) where
         many k t,
         keeps i,
         as-it-was k t ok,
-        same-place k (cap t) (t .head),
-        same-pos k (cap t) (t .head),
       )
 
   -- all gone, and the head at 0
@@ -111,7 +110,7 @@ module _ (k : Kind) (t : Tray) (o : Outcome) (ok : invalid k t ≡ false) where
       cc (
         eo,
         done-is k t clear ok tt,
-        no-head k,
+        no-head k 0,
         moved-none (place k (cap t) (t .head)) (place k (cap t) 0) (t .len),
         relaid-clear _ _ _ _ (t .len) (t .slots) u (fit k t ok .placed) (placing k (cap t) 0 (omega arith)) m,
       )
@@ -120,7 +119,7 @@ module _ (k : Kind) (t : Tray) (o : Outcome) (ok : invalid k t ≡ false) where
   clear-none-done none eo = clear-done (t .slots) (rw none (fill-none _ _ _ _)) eo
 
   pub extend-done : (s u : List ℕ) → length s ≤ cap t - t .len → Laid (place k (cap t) (t .head)) (t .len) (length s) s (t .slots) u
-      → o ≡ gives 0 0 (headIn k (t .head)) (t .len + length s) u → o ≡ does k (extend s) t
+      → o ≡ gives 0 0 (headAfter k (t .len + length s) (t .head)) (t .len + length s) u → o ≡ does k (extend s) t
   extend-done s u room m eo =
       let f = fit k t ok in
       let long : length (list k t ++ s) ≡ t .len + length s = simp (length-append, many k t) in
@@ -130,6 +129,6 @@ module _ (k : Kind) (t : Tray) (o : Outcome) (ok : invalid k t ≡ false) where
         long,
         still k t,
         relaid-append _ _ (t .len) (length s) s (t .slots) u (f .placed) refl (omega (arith, f .fits)) m,
-        same-place k (cap t) (t .head),
-        same-pos k (cap t) (t .head),
+        same-place k (cap t) (t .len + length s) (t .head),
+        same-pos k (cap t) (t .len + length s) (t .head),
       )

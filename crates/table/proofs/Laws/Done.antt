@@ -14,13 +14,13 @@ use Rattle.slots.proofs.Moves.{moved-stay}
 use Rattle.table.specs.Tray.{Tray, cap, list, invalid}
 use Rattle.table.specs.Calls.{Call}
 use Rattle.table.specs.Table.{after}
-use Rattle.table.specs.Does.{refused, headIn, rowOf, refusalsOf, done, does}
+use Rattle.table.specs.Does.{refused, headAfter, rowOf, refusalsOf, done, does}
 use Rattle.table.proofs.Laws.Refusals.{Clear, clear-of}
 use Rattle.table.proofs.Laws.Valid.{fit}
 
-pub no-head : (k : Kind) → headIn k 0 ≡ 0
-no-head ring = refl
-no-head vector = refl
+pub no-head : (k : Kind) (n : ℕ) → headAfter k n 0 ≡ 0
+no-head ring n = refl
+no-head vector n = refl
 
 -- a call on a valid container that no refusal of its row stops
 pub done-is : (k : Kind) (t : Tray) (call : Call) → invalid k t ≡ false → Clear (rowOf k call t .refusals)
@@ -30,14 +30,18 @@ done-is k t call ok clear =
     let all : Clear (refusalsOf k call t) = (ok, clear) in
     clear-of (refused t (rowOf k call t .given)) (refusalsOf k call t) (done k t (after call (list k t)) (rowOf k call t)) all
 
--- the head that a call leaves where it was leaves each position in its slot
-pub same-place : (k : Kind) (c h : ℕ) → place k c (headIn k h) ≡ place k c h
-same-place ring c h = refl
-same-place vector c h = refl
+-- a head that stays leaves each position in its slot
+pub same-place : (k : Kind) (c n h : ℕ) → place k c (headAfter k n h) ≡ place k c h
+same-place ring c n h = refl
+same-place vector c n h = refl
 
-pub same-pos : (k : Kind) (c h : ℕ) → pos k c (headIn k h) ≡ pos k c h
-same-pos ring c h = refl
-same-pos vector c h = refl
+pub same-pos : (k : Kind) (c n h : ℕ) → pos k c (headAfter k n h) ≡ pos k c h
+same-pos ring c n h = refl
+same-pos vector c n h = refl
+
+-- the head is the one that a list as long leaves: what leaves the list and the row's head leaves the state
+abbrev pub Homed : Kind → Tray → Type 0
+Homed k t = headAfter k (t .len) (t .head) ≡ t .head
 
 module _ (k : Kind) (t : Tray) where
   pub many : length (list k t) ≡ t .len

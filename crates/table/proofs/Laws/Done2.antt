@@ -16,10 +16,10 @@ use Rattle.slots.proofs.Lays.{from-on, lay-entries, lay-part, lay-rest, entries
 use Rattle.table.specs.Tray.{Tray, cap, list, invalid, Cursor, nowhere}
 use Rattle.table.specs.Calls.{Call2, append, splitOff, clone, fromIter}
 use Rattle.table.specs.Table.{after2, remaining, holding}
-use Rattle.table.specs.Does.{Outcome2, refused2, done2, rowOf2, refusalsOf2, does2}
+use Rattle.table.specs.Does.{Outcome2, refused2, headAfter, done2, rowOf2, refusalsOf2, does2}
 use Rattle.table.proofs.Laws.Valid.{fit}
 use Rattle.table.proofs.Laws.Refusals.{Clear, clear-of, inside}
-use Rattle.table.proofs.Laws.Done.{many, still, as-it-was}
+use Rattle.table.proofs.Laws.Done.{Homed, no-head, many, still, as-it-was, same-place, same-pos}
 
 -- a call that is done, moves nothing and has no cursor
 abbrev pub gives2 : (value h n : ℕ) → List ℕ → (h2 n2 : ℕ) → List ℕ → Outcome2
@@ -61,7 +61,7 @@ module _ (k k2 : Kind) (t t2 : Tray) (o : Outcome2) (ok : invalid k t ≡ false)
   anew = placing k2 (cap t2) 0 (omega arith)
 
   pub append-done : (u u2 : List ℕ) → t2 .len ≤ cap t - t .len → Laid (place k (cap t) (t .head)) (t .len) (t2 .len) (list k2 t2) (t .slots) u
-      → Filled (place k2 (cap t2) (t2 .head)) 0 (t2 .len) 0 (t2 .slots) u2 → o ≡ gives2 0 (t .head) (t .len + t2 .len) u 0 0 u2 → o ≡ does2 k k2 append t t2
+      → Filled (place k2 (cap t2) (t2 .head)) 0 (t2 .len) 0 (t2 .slots) u2 → o ≡ gives2 0 (headAfter k (t .len + t2 .len) (t .head)) (t .len + t2 .len) u 0 0 u2 → o ≡ does2 k k2 append t t2
   append-done u u2 room m m2 eo =
       let f = fit k t ok in
       let longer : length (list k t ++ list k2 t2) ≡ t .len + t2 .len = simp (length-append, many k t, many k2 t2) in
@@ -70,36 +70,41 @@ module _ (k k2 : Kind) (t t2 : Tray) (o : Outcome2) (ok : invalid k t ≡ false)
         eo,
         longer,
         still k t,
+        same-place k (cap t) (t .len + t2 .len) (t .head),
+        same-pos k (cap t) (t .len + t2 .len) (t .head),
+        no-head k2 0,
         relaid-append _ _ (t .len) (t2 .len) (list k2 t2) (t .slots) u (f .placed) (many k2 t2) (omega (arith, f .fits)) m,
         relaid-clear _ _ _ _ (t2 .len) (t2 .slots) u2 (fit k2 t2 ok2 .placed) anew m2,
       )
 
   -- of a T that is empty already
-  pub append-none-done : t2 .len ≡ 0 → o ≡ gives2 0 (t .head) (t .len) (t .slots) 0 0 (t2 .slots) → o ≡ does2 k k2 append t t2
-  append-none-done none eo =
+  pub append-none-done : Homed k t → t2 .len ≡ 0 → o ≡ gives2 0 (t .head) (t .len) (t .slots) 0 0 (t2 .slots) → o ≡ does2 k k2 append t t2
+  append-none-done home none eo =
       let sum : t .len + t2 .len ≡ t .len = omega arith in
-      append-done (t .slots) (t2 .slots) (omega arith) (rw none (lay-none _ _ _ _)) (rw none (fill-none _ _ _ _)) (rw sum eo)
+      append-done (t .slots) (t2 .slots) (omega arith) (rw none (lay-none _ _ _ _)) (rw none (fill-none _ _ _ _)) (rw (sum, home) eo)
 
   -- T, which is empty, gets a part of the list
-  pub clone-done : (u2 : List ℕ) → t2 .len ≡ 0 → t .len ≤ cap t2 → Laid (place k2 (cap t2) 0) 0 (t .len) (list k t) (t2 .slots) u2
+  pub clone-done : Homed k t → (u2 : List ℕ) → t2 .len ≡ 0 → t .len ≤ cap t2 → Laid (place k2 (cap t2) 0) 0 (t .len) (list k t) (t2 .slots) u2
       → o ≡ gives2 0 (t .head) (t .len) (t .slots) 0 (t .len) u2 → o ≡ does2 k k2 clone t t2
-  clone-done u2 none room m eo =
+  clone-done home u2 none room m eo =
       cc (
+        home,
         done2-is k k2 t t2 clone ok ok2 (free t2 none, (le-ltb _ _ room, tt)),
         none,
         eo,
         many k t,
         still k t,
         as-it-was k t ok,
+        no-head k2 (t .len),
         relaid-fresh (pos k2 (cap t2) (t2 .head)) _ _ (t .len) (list k t) (t2 .slots) u2 anew (many k t) m,
       )
 
-  pub clone-none-done : t2 .len ≡ 0 → t .len ≡ 0 → o ≡ gives2 0 (t .head) (t .len) (t .slots) 0 0 (t2 .slots) → o ≡ does2 k k2 clone t t2
-  clone-none-done none none1 eo = clone-done (t2 .slots) none (omega arith) (rw none1 (lay-none _ _ _ _)) (cc (eo, none1))
+  pub clone-none-done : Homed k t → t2 .len ≡ 0 → t .len ≡ 0 → o ≡ gives2 0 (t .head) (t .len) (t .slots) 0 0 (t2 .slots) → o ≡ does2 k k2 clone t t2
+  clone-none-done home none none1 eo = clone-done home (t2 .slots) none (omega arith) (rw none1 (lay-none _ _ _ _)) (cc (eo, none1))
 
   split : (i : ℕ) (u u2 : List ℕ) → i ≤ t .len → t2 .len ≡ 0 → t .len - i ≤ cap t2 → Filled (place k (cap t) (t .head)) i (t .len) 0 (t .slots) u
       → Laid (place k2 (cap t2) 0) 0 (t .len - i) (drop i (list k t)) (t2 .slots) u2
-      → o ≡ gives2 0 (t .head) i u 0 (t .len - i) u2 → o ≡ does2 k k2 (splitOff i) t t2
+      → o ≡ gives2 0 (headAfter k i (t .head)) i u 0 (t .len - i) u2 → o ≡ does2 k k2 (splitOff i) t t2
   split i u u2 le none room m m2 eo =
       let f = fit k t ok in
       let cut : length (take i (list k t)) ≡ i = simp (length-take, many k t) (omega arith) in
@@ -111,20 +116,23 @@ module _ (k k2 : Kind) (t t2 : Tray) (o : Outcome2) (ok : invalid k t ≡ false)
         cut,
         rest,
         moved-kept (place k (cap t) (t .head)) i (t .len),
+        same-place k (cap t) i (t .head),
+        same-pos k (cap t) i (t .head),
+        no-head k2 (t .len - i),
         relaid-take _ _ (t .len) i (t .slots) u (f .placed) (f .fits) le m,
         relaid-fresh (pos k2 (cap t2) (t2 .head)) _ _ (t .len - i) (drop i (list k t)) (t2 .slots) u2 anew rest m2,
       )
 
   -- of nothing
-  pub split-none-done : (i : ℕ) → i ≤ t .len → t2 .len ≡ 0 → t .len ≤ i → o ≡ gives2 0 (t .head) (t .len) (t .slots) 0 0 (t2 .slots) → o ≡ does2 k k2 (splitOff i) t t2
-  split-none-done i le none ge eo =
+  pub split-none-done : Homed k t → (i : ℕ) → i ≤ t .len → t2 .len ≡ 0 → t .len ≤ i → o ≡ gives2 0 (t .head) (t .len) (t .slots) 0 0 (t2 .slots) → o ≡ does2 k k2 (splitOff i) t t2
+  split-none-done home i le none ge eo =
       let e : i ≡ t .len = omega arith in
       let z : t .len - i ≡ 0 = omega arith in
-      split i (t .slots) (t2 .slots) le none (omega arith) (rw e (fill-none _ _ _ _)) (rw z (lay-none _ _ _ _)) (cc (eo, e, z))
+      split i (t .slots) (t2 .slots) le none (omega arith) (rw e (fill-none _ _ _ _)) (rw z (lay-none _ _ _ _)) (cc (eo, e, z, home))
 
 -- T, a vector that is empty, gets what remains of a cursor, and the cursor ends
 module _ (k : Kind) (t t2 : Tray) (o : Outcome2) (ok : invalid k t ≡ false) (ok2 : invalid vector t2 ≡ false) (c : Cursor) (ordered : c .front ≤ c .back)
-    (fits : c .back ≤ t .len) (none : t2 .len ≡ 0) where
+    (fits : c .back ≤ t .len) (none : t2 .len ≡ 0) (home : Homed k t) where
   from-iter : (u2 : List ℕ) → c .back - c .front ≤ cap t2 → Laid itself 0 (c .back - c .front) (remaining c (list k t)) (t2 .slots) u2
       → o ≡ fills t (c .back - c .front) u2 (c .back) → o ≡ does2 k vector (fromIter c) t t2
   from-iter u2 room m eo =
@@ -136,6 +144,7 @@ module _ (k : Kind) (t t2 : Tray) (o : Outcome2) (ok : invalid k t ≡ false) (o
         long,
         many k t,
         still k t,
+        home,
         as-it-was k t ok,
         relaid-fresh itself itself itself (c .back - c .front) (remaining c (list k t)) (t2 .slots) u2 (anew k vector t t2 o ok ok2) long m,
       )
@@ -148,13 +157,13 @@ module _ (k : Kind) (t t2 : Tray) (o : Outcome2) (ok : invalid k t ≡ false) (o
 
 -- over a ring: the part is the list of a ring whose head is the part's first slot
 pub from-iter-done : (t t2 : Tray) (o : Outcome2) → invalid ring t ≡ false → invalid vector t2 ≡ false → (c : Cursor) (s : ℕ) (u2 : List ℕ) → c .front ≤ c .back
-    → c .back ≤ t .len → t2 .len ≡ 0 → c .back - c .front ≤ cap t2 → s ≡ slotOf (cap t) (t .head) (c .front)
+    → c .back ≤ t .len → t2 .len ≡ 0 → Homed ring t → c .back - c .front ≤ cap t2 → s ≡ slotOf (cap t) (t .head) (c .front)
     → Laid (slotOf (cap t2) 0) 0 (c .back - c .front) (entries (slotOf (cap t) s) (c .back - c .front) (t .slots)) (t2 .slots) u2
     → o ≡ fills t (c .back - c .front) u2 (c .back) → o ≡ does2 ring vector (fromIter c) t t2
-from-iter-done t t2 o ok ok2 c s u2 le fits none room es m eo =
+from-iter-done t t2 o ok ok2 c s u2 le fits none home room es m eo =
     let is : remaining c (list ring t) ≡ entries (slotOf (cap t) s) (c .back - c .front) (t .slots) =
     rw es (entries-part (cap t) (t .head) (t .len) (c .front) (c .back - c .front) (t .slots) (omega arith)) in
-    from-iter ring t t2 o ok ok2 c le fits none u2 room (lay-plain 0 _ _ (t2 .slots) u2 (omega arith) (rw is m)) eo
+    from-iter ring t t2 o ok ok2 c le fits none home u2 room (lay-plain 0 _ _ (t2 .slots) u2 (omega arith) (rw is m)) eo
 
 -- of a ring: the part is the list of a ring whose head is the part's first slot
 pub split-done : (k2 : Kind) (t t2 : Tray) (o : Outcome2) → invalid ring t ≡ false → invalid k2 t2 ≡ false → (i s : ℕ) (u u2 : List ℕ) → i ≤ t .len
@@ -167,21 +176,21 @@ split-done k2 t t2 o ok ok2 i s u u2 le none room es m m2 eo =
 -- Vectors, whose entries are their first slots.
 module _ (t t2 : Tray) (o : Outcome2) (ok : invalid vector t ≡ false) (ok2 : invalid vector t2 ≡ false) where
   pub vector-append-done : (u u2 : List ℕ) → t2 .len ≤ cap t - t .len → Laid itself (t .len) (t2 .len) (t2 .slots) (t .slots) u
-      → Filled itself 0 (t2 .len) 0 (t2 .slots) u2 → o ≡ gives2 0 (t .head) (t .len + t2 .len) u 0 0 u2 → o ≡ does2 vector vector append t t2
+      → Filled itself 0 (t2 .len) 0 (t2 .slots) u2 → o ≡ gives2 0 0 (t .len + t2 .len) u 0 0 u2 → o ≡ does2 vector vector append t t2
   vector-append-done u u2 room m m2 eo = append-done vector vector t t2 o ok ok2 u u2 room (lay-entries _ _ _ _ _ _ m) m2 eo
 
-  pub vector-clone-done : (u2 : List ℕ) → t2 .len ≡ 0 → t .len ≤ cap t2 → Laid itself 0 (t .len) (t .slots) (t2 .slots) u2
+  pub vector-clone-done : Homed vector t → (u2 : List ℕ) → t2 .len ≡ 0 → t .len ≤ cap t2 → Laid itself 0 (t .len) (t .slots) (t2 .slots) u2
       → o ≡ gives2 0 (t .head) (t .len) (t .slots) 0 (t .len) u2 → o ≡ does2 vector vector clone t t2
-  vector-clone-done u2 none room m eo = clone-done vector vector t t2 o ok ok2 u2 none room (lay-entries _ _ _ _ _ _ m) eo
+  vector-clone-done home u2 none room m eo = clone-done vector vector t t2 o ok ok2 home u2 none room (lay-entries _ _ _ _ _ _ m) eo
 
   pub vector-split-done : (i : ℕ) (u u2 : List ℕ) → i ≤ t .len → t2 .len ≡ 0 → t .len - i ≤ cap t2
       → Laid itself 0 (t .len - i) (from-on i (t .slots)) (t2 .slots) u2 → Filled itself i (t .len) 0 (t .slots) u
-      → o ≡ gives2 0 (t .head) i u 0 (t .len - i) u2 → o ≡ does2 vector vector (splitOff i) t t2
+      → o ≡ gives2 0 0 i u 0 (t .len - i) u2 → o ≡ does2 vector vector (splitOff i) t t2
   vector-split-done i u u2 le none room m2 m eo =
       split vector vector t t2 o ok ok2 i u u2 le none room m (lay-rest _ _ _ _ _ _ _ (fit vector t ok .fits) le m2) eo
 
-  pub vector-from-iter-done : (c : Cursor) (u2 : List ℕ) → c .front ≤ c .back → c .back ≤ t .len → t2 .len ≡ 0 → c .back - c .front ≤ cap t2
+  pub vector-from-iter-done : Homed vector t → (c : Cursor) (u2 : List ℕ) → c .front ≤ c .back → c .back ≤ t .len → t2 .len ≡ 0 → c .back - c .front ≤ cap t2
       → Laid itself 0 (c .back - c .front) (from-on (c .front) (t .slots)) (t2 .slots) u2
       → o ≡ fills t (c .back - c .front) u2 (c .back) → o ≡ does2 vector vector (fromIter c) t t2
-  vector-from-iter-done c u2 le fits none room m eo =
-      from-iter vector t t2 o ok ok2 c le fits none u2 room (lay-part itself 0 (t .len) (c .front) _ (t .slots) _ _ (fit vector t ok .fits) (omega arith) m) eo
+  vector-from-iter-done home c u2 le fits none room m eo =
+      from-iter vector t t2 o ok ok2 c le fits none home u2 room (lay-part itself 0 (t .len) (c .front) _ (t .slots) _ _ (fit vector t ok .fits) (omega arith) m) eo

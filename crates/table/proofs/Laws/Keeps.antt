@@ -13,23 +13,23 @@ use Rattle.slots.proofs.Relaid.{length-relaid, entries-relaid}
 use Rattle.table.specs.Tray.{Tray, cap, list, Cursor, nowhere}
 use Rattle.table.specs.Calls.{Call, Call2, Making, new, withCapacity, fromElem}
 use Rattle.table.specs.Table.{numberOf, row, row2, makes, after, after2, begins}
-use Rattle.table.specs.Does.{refused, refused2, headIn, relay, done, done2, rowOf, rowOf2, refusalsOf, refusalsOf2, refusalsMade, does, does2, bare, made}
-use Rattle.table.specs.Ledger.{Rule, Rule2, rule, rule2, ifDone, goesBy, goesBy2}
-use Rattle.table.specs.Promise.{Promise, Promise2, promise, promise2, arrival, unless, unless2, Good, Holds, Keeps, Keeps2, Kept, Kept2, Arrives}
+use Rattle.table.specs.Does.{Outcome, refused, refused2, headAfter, relay, done, done2, rowOf, rowOf2, refusalsOf, refusalsOf2, refusalsMade, does, does2, bare, made}
+use Rattle.table.specs.Ledger.{Rule, Rule2, leaving, rule, rule2, ifDone, goesBy, goesBy2}
+use Rattle.table.specs.Promise.{Promise, Promise2, promise, promise2, arrival, showing, unless, unless2, Good, Holds, Keeps, Keeps2, Kept, Kept2, Arrives}
 use Rattle.table.proofs.Laws.Refusals.{Clear, either, above-zero}
 use Rattle.table.proofs.Laws.Rows.{kept, made-room, kept2, headed, headed2}
 
 -- The slots that a done call leaves hold the list l, wherever the ring wraps.
-module _ (k : Kind) (t : Tray) (l : List ℕ) (head : ℕ) (ok : head ≤ cap t - 1) (room : length l ≤ cap t) where
+module _ (k : Kind) (t : Tray) (l : List ℕ) (head : ℕ) (ok : headAfter k (length l) head ≤ cap t - 1) (room : length l ≤ cap t) where
   pub relay-list : list k (relay k t l head) ≡ l
-  relay-list = rw length-relaid (entries-relaid _ _ _ (t .len) l (t .slots) (placing k (cap t) head ok) room)
+  relay-list = rw length-relaid (entries-relaid _ _ _ (t .len) l (t .slots) (placing k (cap t) (headAfter k (length l) head) ok) room)
 
   pub relay-holds : Holds k (relay k t l head) l
   relay-holds = record { good = record { fits = rw length-relaid room; headed = rw length-relaid ok }; listed = relay-list }
 
-pub head-in : (k : Kind) (h m : ℕ) → h ≤ m → headIn k h ≤ m
-head-in ring h m p = p
-head-in vector h m p = omega arith
+pub head-in : (k : Kind) (n h m : ℕ) → h ≤ m → headAfter k n h ≤ m
+head-in ring n h m p = p
+head-in vector n h m p = omega arith
 
 -- A refusal keeps any rule, whatever its number: it leaves all as it was.
 pub refused-keeps : (r : Rule) (k : Kind) (t : Tray) (u : Cursor) (number : ℕ) → 0 < number → Good t → Keeps (goesBy number r) k (list k t) (refused t u number)
@@ -62,6 +62,17 @@ module _ (number : ℕ) (above : 0 < number) where
       go k k2 t t2 good good2 true plain = refused2-keeps (p .rule) k k2 t t2 nowhere number above good good2
       go k k2 t t2 good good2 false plain = plain
 
+-- A call that leaves everything as it was keeps its rule, done or refused.
+goes-leaving : (number : ℕ) → leaving ≡ goesBy number leaving
+goes-leaving zero = refl
+goes-leaving (suc m) = refl
+
+pub showing-kept : (has : Kind → Bool) (does : Kind → Tray → Outcome) → ((k : Kind) (t : Tray) → does k t .tray ≡ t) → Kept (showing has does)
+showing-kept has does same = record {
+  keeps = λ k t kind good.
+      rw (← goes-leaving (does k t .number)) (record { holds = rw (same k t) (record { good = good; listed = refl }); balanced = λ x. refl });
+}
+
 -- A call on one container.
 call-keeps : (call : Call) (k : Kind) (t : Tray) → Good t → Keeps (goesBy (does k call t .number) (rule call)) k (list k t) (does k call t)
 unfolding does
@@ -74,7 +85,7 @@ call-keeps call k t good =
     let none : Clear (row (cap t) (t .head) (length (list k t)) (list k t) call .refusals) = rw n-is (clear .1) in
     let head-ok : rowOf k call t .head ≤ cap t - 1 = rw n-is at (headed call (cap t) (t .head) (list k t) (good .headed) within none) in
     record {
-      holds = relay-holds k t (after call (list k t)) _ (head-in k _ _ head-ok) (kept 0 (cap t) (t .head) call (list k t) within none .room);
+      holds = relay-holds k t (after call (list k t)) _ (head-in k _ _ _ head-ok) (kept 0 (cap t) (t .head) call (list k t) within none .room);
       balanced = λ x. rw n-is at (kept x (cap t) (t .head) call (list k t) within none .balance);
     })
 
@@ -96,7 +107,7 @@ unfolding made
 made-holds m k slots =
     either (λ o. Holds k (o .tray) (ifDone (o .number) (begins m) [])) (refused (bare slots) nowhere) (refusalsMade m slots) (done k (bare slots) (begins m) (makes (length slots) m))
     (λ r. refused-arrives k (begins m) slots (numberOf r) (above-zero r))
-    (λ clear. relay-holds k (bare slots) (begins m) (headIn k (makes (length slots) m .head)) (head-in k _ _ (start m)) (made-room (length slots) m (clear .1)))
+    (λ clear. relay-holds k (bare slots) (begins m) (makes (length slots) m .head) (head-in k _ _ _ (start m)) (made-room (length slots) m (clear .1)))
   where
     start : (m : Making) → makes (length slots) m .head ≤ length slots - 1
     start new = omega arith
@@ -125,8 +136,8 @@ two-keep call k k2 t t2 good good2 =
     let rooms = kept2 0 (cap t) (t .head) (cap t2) (t2 .head) call l l2 within within2 none in
     let head2 = headed2 call (cap t) (t .head) (t .len) l (cap t2) (t2 .head) (t2 .len) l2 (good2 .headed) in
     record {
-      first = relay-holds k t (after2 call l l2 .0) (t .head) (good .headed) (rooms .room);
-      second = relay-holds k2 t2 (after2 call l l2 .1) _ head2 (rooms .room2);
+      first = relay-holds k t (after2 call l l2 .0) (t .head) (head-in k _ _ _ (good .headed)) (rooms .room);
+      second = relay-holds k2 t2 (after2 call l l2 .1) _ (head-in k2 _ _ _ head2) (rooms .room2);
       balanced = λ x. rw (count-append x l l2, count-append) (kept2 x (cap t) (t .head) (cap t2) (t2 .head) call l l2 within within2 none .balance);
     })
 

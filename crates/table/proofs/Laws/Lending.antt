@@ -10,6 +10,7 @@ use borrow.Author.Needs.{needs}
 use Rattle.table.specs.Tray.{within}
 use Rattle.table.specs.Parts.{Part}
 use Rattle.table.proofs.Laws.Refusals.{tests}
+use Rattle.table.proofs.Laws.Stops.{in-order, in-reach}
 use Rattle.table.specs.Lent.{Lent}
 
 module _ (bytes : ℕ) (s r : RefT (List ℕ)) (test : Bool) (none these : Part) where
@@ -41,4 +42,4 @@ one-part bytes p s r r′ l l′ =
     let offset : ptr r .1 ≡ ptr r′ .1 = l .offset ∙ sym (l′ .offset) in
     ((λ i. (block i, offset i)), l .holds ∙ sym (l′ .holds))
 
-pub ruleset lending = (lent-none, lent-these, left-holds, right-holds, both-fail, tests, needs)
+pub ruleset lending = (in-order, in-reach, lent-none, lent-these, left-holds, right-holds, both-fail, tests, needs)

@@ -9,50 +9,49 @@ use Rattle.slots.specs.Layout.{Kind, vector, place}
 use Rattle.table.specs.Tray.{Tray, cap, list, invalid, Cursor}
 use Rattle.table.specs.Calls.{Look, look, len, isEmpty, read, reserve, range, iter, intoIter}
 use Rattle.table.specs.Table.{lookRow}
-use Rattle.table.specs.Does.{Outcome, gives, headIn, rowOf, does}
+use Rattle.table.specs.Does.{Outcome, gives, rowOf, does}
 use Rattle.table.proofs.Laws.Refusals.{Clear, inside}
-use Rattle.table.proofs.Laws.Done.{done-is, many, still, at, as-it-was, same-place, same-pos}
+use Rattle.table.proofs.Laws.Done.{Homed, done-is, many, still, at, as-it-was}
 
 -- the container as it was, with this value and cursor
-abbrev pub shows : Kind → Tray → (value : ℕ) → Cursor → Outcome
-shows k t value u =
-    record { number = 0; value = value; moves = 0; tray = record { head = headIn k (t .head); len = t .len; slots = t .slots }; cursor = u }
+abbrev pub shows : Tray → (value : ℕ) → Cursor → Outcome
+shows t value u = record { number = 0; value = value; moves = 0; tray = record { head = t .head; len = t .len; slots = t .slots }; cursor = u }
 
-module _ (k : Kind) (t : Tray) (o : Outcome) (ok : invalid k t ≡ false) where
+module _ (k : Kind) (t : Tray) (o : Outcome) (ok : invalid k t ≡ false) (home : Homed k t) where
   pub look-done : (q : Look) → Clear (rowOf k (look q) t .refusals)
-      → o ≡ shows k t (lookRow (cap t) (t .len) (list k t) q .value) (lookRow (cap t) (t .len) (list k t) q .cursor) → o ≡ does k (look q) t
+      → o ≡ shows t (lookRow (cap t) (t .len) (list k t) q .value) (lookRow (cap t) (t .len) (list k t) q .cursor) → o ≡ does k (look q) t
   look-done q clear eo =
-      cc (eo, done-is k t (look q) ok clear, many k t, still k t, as-it-was k t ok, same-place k (cap t) (t .head), same-pos k (cap t) (t .head))
+      cc (eo, home, done-is k t (look q) ok clear, many k t, still k t, as-it-was k t ok)
 
   -- the length as an entry, whatever its width
-  pub len-done : (value : ℕ) → value ≡ t .len → o ≡ gives value 0 (headIn k (t .head)) (t .len) (t .slots) → o ≡ does k (look len) t
+  pub len-done : (value : ℕ) → value ≡ t .len → o ≡ gives value 0 (t .head) (t .len) (t .slots) → o ≡ does k (look len) t
   len-done value ev eo = look-done len tt (rw ev at eo)
 
   pub read-done : (i s : ℕ) → i < t .len → s ≡ place k (cap t) (t .head) i
-      → o ≡ gives (getD (t .slots) s 0) 0 (headIn k (t .head)) (t .len) (t .slots) → o ≡ does k (look (read i)) t
+      → o ≡ gives (getD (t .slots) s 0) 0 (t .head) (t .len) (t .slots) → o ≡ does k (look (read i)) t
   read-done i s h es eo = look-done (read i) (lt-leb _ _ h, tt) (rw (at k t i s h es) eo)
 
   -- a yes and a no
-  pub empty-done : t .len ≡ 0 → o ≡ gives 1 0 (headIn k (t .head)) (t .len) (t .slots) → o ≡ does k (look isEmpty) t
+  pub empty-done : t .len ≡ 0 → o ≡ gives 1 0 (t .head) (t .len) (t .slots) → o ≡ does k (look isEmpty) t
   empty-done e eo = look-done isEmpty tt (rw (eq-eqb (t .len) 0 e) eo)
 
-  pub filled-done : (t .len ≡ 0 → ⊥) → o ≡ gives 0 0 (headIn k (t .head)) (t .len) (t .slots) → o ≡ does k (look isEmpty) t
+  pub filled-done : (t .len ≡ 0 → ⊥) → o ≡ gives 0 0 (t .head) (t .len) (t .slots) → o ≡ does k (look isEmpty) t
   filled-done ne eo = look-done isEmpty tt (rw (ne-eqb (t .len) 0 ne) eo)
 
   -- room for m more
-  pub reserve-done : (m : ℕ) → m ≤ cap t - t .len → o ≡ gives 0 0 (headIn k (t .head)) (t .len) (t .slots) → o ≡ does k (look (reserve m)) t
+  pub reserve-done : (m : ℕ) → m ≤ cap t - t .len → o ≡ gives 0 0 (t .head) (t .len) (t .slots) → o ≡ does k (look (reserve m)) t
   reserve-done m room eo = look-done (reserve m) (le-ltb _ _ room, tt) eo
 
-  pub range-done : (a b : ℕ) → a ≤ b → b ≤ t .len → o ≡ gives 0 0 (headIn k (t .head)) (t .len) (t .slots) → o ≡ does k (look (range a b)) t
+  pub range-done : (a b : ℕ) → a ≤ b → b ≤ t .len → o ≡ gives 0 0 (t .head) (t .len) (t .slots) → o ≡ does k (look (range a b)) t
   range-done a b le fits eo = look-done (range a b) (inside a b (t .len) le fits, tt) eo
 
-  pub iter-done : o ≡ shows k t 0 (record { front = 0; back = t .len }) → o ≡ does k (look iter) t
+  pub iter-done : o ≡ shows t 0 (record { front = 0; back = t .len }) → o ≡ does k (look iter) t
   iter-done eo = look-done iter tt eo
 
-  pub into-iter-done : o ≡ shows k t 0 (record { front = 0; back = t .len }) → o ≡ does k (look intoIter) t
+  pub into-iter-done : o ≡ shows t 0 (record { front = 0; back = t .len }) → o ≡ does k (look intoIter) t
   into-iter-done eo = look-done intoIter tt eo
 
 -- A vector's position is its slot.
-pub vector-read-done : (t : Tray) (o : Outcome) → invalid vector t ≡ false → (i : ℕ) → i < t .len
-    → o ≡ gives (getD (t .slots) i 0) 0 0 (t .len) (t .slots) → o ≡ does vector (look (read i)) t
-vector-read-done t o ok i h eo = read-done vector t o ok i i h refl eo
+pub vector-read-done : (t : Tray) (o : Outcome) → invalid vector t ≡ false → Homed vector t → (i : ℕ) → i < t .len
+    → o ≡ gives (getD (t .slots) i 0) 0 (t .head) (t .len) (t .slots) → o ≡ does vector (look (read i)) t
+vector-read-done t o ok home i h eo = read-done vector t o ok home i i h refl eo

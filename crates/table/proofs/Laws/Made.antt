@@ -34,7 +34,7 @@ module _ (k : Kind) (slots : List ℕ) (o : Outcome) (few : length slots ≤ 409
       cc (
         eo,
         made-is k new slots few tt,
-        no-head k,
+        no-head k 0,
         no-entries (place k (length slots) 0) slots,
         moved-stay (place k (length slots) 0) 0,
         relaid-same _ _ 0 slots (placing k (length slots) 0 (omega arith)) (omega arith),
@@ -45,7 +45,7 @@ module _ (k : Kind) (slots : List ℕ) (o : Outcome) (few : length slots ≤ 409
       cc (
         eo,
         made-is k (withCapacity i) slots few (le-ltb _ _ fits, tt),
-        no-head k,
+        no-head k 0,
         no-entries (place k (length slots) 0) slots,
         moved-stay (place k (length slots) 0) 0,
         relaid-same _ _ 0 slots (placing k (length slots) 0 (omega arith)) (omega arith),
@@ -58,7 +58,7 @@ module _ (k : Kind) (slots : List ℕ) (o : Outcome) (few : length slots ≤ 409
       cc (
         eo,
         made-is k (fromElem i x) slots few (le-ltb _ _ fits, tt),
-        no-head k,
+        no-head k i,
         length-replicate i x,
         moved-stay (place k (length slots) 0) 0,
         relaid-fresh (pos k (length slots) 0) _ _ i (replicate i x) slots u (placing k (length slots) 0 (omega arith)) (length-replicate i x) lays,

@@ -18,16 +18,16 @@ use Rattle.slots.proofs.Shifts.{insert-back, remove-back, insert-front, remove-
 use Rattle.table.specs.Tray.{Tray, cap, list, invalid}
 use Rattle.table.specs.Calls.{insert, remove, swapRemove}
 use Rattle.table.specs.Table.{headBack, headOn}
-use Rattle.table.specs.Does.{Outcome, gives, headIn, does}
+use Rattle.table.specs.Does.{Outcome, gives, headAfter, does}
 use Rattle.table.proofs.Laws.Valid.{fit, ring-inside}
 use Rattle.table.proofs.Theorems.Moves.{insert-high, remove-high, insert-low, remove-low}
 use Rattle.table.proofs.Laws.Done.{many, at, longer, shorter, same-place, same-pos}
 
 module _ (k : Kind) (t : Tray) (o : Outcome) (ok : invalid k t ≡ false) where
   -- where the head stays
-  insert-stays : (i x s : ℕ) (u : List ℕ) → headIn k (cond (ltb i (t .len - i)) (headBack (cap t) (t .head)) (t .head)) ≡ headIn k (t .head)
+  insert-stays : (i x s : ℕ) (u : List ℕ) → headAfter k (t .len + 1) (cond (ltb i (t .len - i)) (headBack (cap t) (t .head)) (t .head)) ≡ headAfter k (t .len + 1) (t .head)
       → i ≤ t .len → t .len < cap t → MovedUp (place k (cap t) (t .head)) i (t .len) (t .slots) u → s ≡ place k (cap t) (t .head) i
-      → o ≡ gives 0 (t .len - i) (headIn k (t .head)) (t .len + 1) (set u s x) → o ≡ does k (insert i x) t
+      → o ≡ gives 0 (t .len - i) (headAfter k (t .len + 1) (t .head)) (t .len + 1) (set u s x) → o ≡ does k (insert i x) t
   unfolding does
   insert-stays i x s u stays h room m es eo =
       cc (
@@ -40,14 +40,14 @@ module _ (k : Kind) (t : Tray) (o : Outcome) (ok : invalid k t ≡ false) where
         longer k t i x h,
         insert-high k t ok i h room,
         insert-back _ _ (t .len) i (t .slots) u (fit k t ok .placed) x h room m,
-        same-place k (cap t) (t .head),
-        same-pos k (cap t) (t .head),
+        same-place k (cap t) (t .len + 1) (t .head),
+        same-pos k (cap t) (t .len + 1) (t .head),
       )
 
-  remove-stays : (i s z : ℕ) (u : List ℕ) → headIn k (cond (ltb i (t .len - 1 - i)) (headOn (cap t) (t .head)) (t .head)) ≡ headIn k (t .head)
+  remove-stays : (i s z : ℕ) (u : List ℕ) → headAfter k (t .len - 1) (cond (ltb i (t .len - 1 - i)) (headOn (cap t) (t .head)) (t .head)) ≡ headAfter k (t .len - 1) (t .head)
       → i < t .len → s ≡ place k (cap t) (t .head) i → MovedDown (place k (cap t) (t .head)) i (t .len - 1) (t .slots) u
       → z ≡ place k (cap t) (t .head) (t .len - 1)
-      → o ≡ gives (getD (t .slots) s 0) (t .len - 1 - i) (headIn k (t .head)) (t .len - 1) (set u z 0) → o ≡ does k (remove i) t
+      → o ≡ gives (getD (t .slots) s 0) (t .len - 1 - i) (headAfter k (t .len - 1) (t .head)) (t .len - 1) (set u z 0) → o ≡ does k (remove i) t
   unfolding does
   remove-stays i s z u stays h es m ez eo =
       let f = fit k t ok in
@@ -61,8 +61,8 @@ module _ (k : Kind) (t : Tray) (o : Outcome) (ok : invalid k t ≡ false) where
         shorter k t i h,
         remove-high k t ok i h,
         remove-back _ _ (t .len) i (t .slots) u (f .placed) h (f .fits) m,
-        same-place k (cap t) (t .head),
-        same-pos k (cap t) (t .head),
+        same-place k (cap t) (t .len - 1) (t .head),
+        same-pos k (cap t) (t .len - 1) (t .head),
       )
 
   swap-shorter : (i x : ℕ) → i < t .len → length (take (t .len - 1) (set (list k t) i x)) ≡ t .len - 1
@@ -71,7 +71,7 @@ module _ (k : Kind) (t : Tray) (o : Outcome) (ok : invalid k t ≡ false) where
   -- m is the number of entries moved: none where i is the last, else one
   swaps : (i s z m : ℕ) → i < t .len → moved (place k (cap t) (t .head)) (place k (cap t) (t .head)) (swapped i (t .len)) (t .len) ≡ m
       → s ≡ place k (cap t) (t .head) i → z ≡ place k (cap t) (t .head) (t .len - 1)
-      → o ≡ gives (getD (t .slots) s 0) m (headIn k (t .head)) (t .len - 1) (set (set (t .slots) s (getD (t .slots) z 0)) z 0) → o ≡ does k (swapRemove i) t
+      → o ≡ gives (getD (t .slots) s 0) m (headAfter k (t .len - 1) (t .head)) (t .len - 1) (set (set (t .slots) s (getD (t .slots) z 0)) z 0) → o ≡ does k (swapRemove i) t
   unfolding does
   swaps i s z m h em es ez eo =
       let f = fit k t ok in
@@ -86,8 +86,8 @@ module _ (k : Kind) (t : Tray) (o : Outcome) (ok : invalid k t ≡ false) where
         many k t,
         swap-shorter i (getD (list k t) (t .len - 1) 0) h,
         relaid-swap _ _ (t .len) (t .slots) (f .placed) (f .fits) i h,
-        same-place k (cap t) (t .head),
-        same-pos k (cap t) (t .head),
+        same-place k (cap t) (t .len - 1) (t .head),
+        same-pos k (cap t) (t .len - 1) (t .head),
       )
 
 -- A vector's position is its slot, so its laws need no premise for the slot.

@@ -7,8 +7,8 @@ use native.Mathlib.Omega.{arith}
 use borrow.Author.Tests.{ltb-true, ltb-false, leb-true, le-leb, eq-eqb, ne-eqb, not-true, not-false}
 use lib.Dec.{ltb, leb, eqb}
 use Rattle.slots.specs.Layout.{Kind, ring, vector}
-use Rattle.table.specs.Tray.{valid}
-use Rattle.table.specs.Tested.{gate, Stopped}
+use Rattle.table.specs.Tray.{valid, within}
+use Rattle.table.specs.Tested.{gate, Stopped, Strays}
 use Rattle.table.proofs.Laws.Valid.{Valid, and-left, and-right, gated}
 
 -- THE SHORT FORMS. Two tests that agree where a third holds, after it or before it
@@ -153,4 +153,19 @@ module _ (k : Kind) (c h n a b : ℕ) (s : Bool) where
       → Stopped k c h n (ltb a b && leb b n) s × (a < b + gate s) × (b ≤ n + gate s)
   stopped-step t u = (t, gated-below s a b (u .0) (λ go. before-past t go), gated s b n (u .1) (λ go. within-past t go))
 
-pub ruleset stops = (valid-past, below-past, bound-fails, some-past, none-held, within-past, ordered-past, apart-past, meets)
+-- A range or a cursor that the code's own test finds in order.
+module _ (a b n : ℕ) (s : Bool) where
+  pub in-order : Strays a b n s → s ≡ false → a ≤ b
+  in-order t go = leb-true a b (and-left _ _ (not-false (within a b n) (sym (t .is) ∙ go)))
+
+  pub in-reach : Strays a b n s → s ≡ false → b ≤ n
+  in-reach t go = leb-true b n (and-right (leb a b) _ (not-false (within a b n) (sym (t .is) ∙ go)))
+
+  pub strays : s ≡ not (within a b n) → (a < 2 ^ 64) × (b < 2 ^ 64) → Strays a b n s
+  strays e u = record {
+    is = e;
+    ordered = gated s a b (u .0) (λ go. leb-true a b (and-left _ _ (not-false (within a b n) (sym e ∙ go))));
+    fits = gated s b n (u .1) (λ go. leb-true b n (and-right (leb a b) _ (not-false (within a b n) (sym e ∙ go))));
+  }
+
+pub ruleset stops = (in-order, in-reach, valid-past, below-past, bound-fails, some-past, none-held, within-past, ordered-past, apart-past, meets)

@@ -16,33 +16,32 @@ use Rattle.slots.proofs.Moves.{moved-replaced}
 use Rattle.table.specs.Tray.{Tray, cap, list, invalid}
 use Rattle.table.specs.Calls.{push, pushFront, pop, popFront, write}
 use Rattle.table.specs.Table.{headBack}
-use Rattle.table.specs.Does.{Outcome, gives, headIn, does}
+use Rattle.table.specs.Does.{Outcome, gives, headAfter, does}
 use Rattle.table.proofs.Laws.Valid.{fit, ring-inside}
 use Rattle.table.proofs.Theorems.Moves.{remove-high, insert-low, remove-low}
-use Rattle.table.proofs.Laws.Done.{many, still, at, longer, shorter, same-place, same-pos}
+use Rattle.table.proofs.Laws.Done.{Homed, many, still, at, longer, shorter, same-place, same-pos}
 
 module _ (k : Kind) (t : Tray) (o : Outcome) (ok : invalid k t ≡ false) where
-  pub write-done : (i x s : ℕ) → i < t .len → s ≡ place k (cap t) (t .head) i
-      → o ≡ gives (getD (t .slots) s 0) 0 (headIn k (t .head)) (t .len) (set (t .slots) s x) → o ≡ does k (write i x) t
+  pub write-done : Homed k t → (i x s : ℕ) → i < t .len → s ≡ place k (cap t) (t .head) i
+      → o ≡ gives (getD (t .slots) s 0) 0 (t .head) (t .len) (set (t .slots) s x) → o ≡ does k (write i x) t
   unfolding does
-  write-done i x s h es eo =
+  write-done home i x s h es eo =
       let f = fit k t ok in
       cc (
         ok,
         lt-leb _ _ h,
         eo,
+        home,
         es,
         at k t i s h es,
         length-set (list k t) i x,
         many k t,
         moved-replaced (place k (cap t) (t .head)) i (t .len),
         relaid-write _ _ (t .len) (t .slots) (f .placed) (f .fits) i x h,
-        same-place k (cap t) (t .head),
-        same-pos k (cap t) (t .head),
       )
 
   pub push-done : (x s : ℕ) → t .len < cap t → s ≡ place k (cap t) (t .head) (t .len)
-      → o ≡ gives 0 0 (headIn k (t .head)) (t .len + 1) (set (t .slots) s x) → o ≡ does k (push x) t
+      → o ≡ gives 0 0 (headAfter k (t .len + 1) (t .head)) (t .len + 1) (set (t .slots) s x) → o ≡ does k (push x) t
   unfolding does
   push-done x s room es eo =
       let f = fit k t ok in
@@ -56,12 +55,12 @@ module _ (k : Kind) (t : Tray) (o : Outcome) (ok : invalid k t ≡ false) where
         still k t,
         insert-last (list k t) (t .len) x (many k t),
         insert-back _ _ (t .len) (t .len) (t .slots) (t .slots) (f .placed) x (omega arith) room (up-none _ _ _),
-        same-place k (cap t) (t .head),
-        same-pos k (cap t) (t .head),
+        same-place k (cap t) (t .len + 1) (t .head),
+        same-pos k (cap t) (t .len + 1) (t .head),
       )
 
   pub pop-done : (s : ℕ) → (t .len ≡ 0 → ⊥) → s ≡ place k (cap t) (t .head) (t .len - 1)
-      → o ≡ gives (getD (t .slots) s 0) 0 (headIn k (t .head)) (t .len - 1) (set (t .slots) s 0) → o ≡ does k pop t
+      → o ≡ gives (getD (t .slots) s 0) 0 (headAfter k (t .len - 1) (t .head)) (t .len - 1) (set (t .slots) s 0) → o ≡ does k pop t
   unfolding does
   pop-done s any es eo =
       let f = fit k t ok in
@@ -78,8 +77,8 @@ module _ (k : Kind) (t : Tray) (o : Outcome) (ok : invalid k t ≡ false) where
         remove-last (list k t) (t .len) (many k t) (omega arith),
         many k t,
         remove-back _ _ (t .len) (t .len - 1) (t .slots) (t .slots) (f .placed) (omega arith) (f .fits) (down-none _ _ _),
-        same-place k (cap t) (t .head),
-        same-pos k (cap t) (t .head),
+        same-place k (cap t) (t .len - 1) (t .head),
+        same-pos k (cap t) (t .len - 1) (t .head),
       )
 
 -- A vector's position is its slot, so its laws need no premise for the slot.

@@ -16,13 +16,15 @@ use Rattle.table.specs.Tray.{Tray, cap, invalid}
 use Rattle.table.specs.Calls.{write, swapRemove, resize}
 use Rattle.table.specs.Does.{Outcome, gives, does}
 use Rattle.table.proofs.Laws.Valid.{fit}
+use Rattle.table.proofs.Laws.Done.{Homed}
 use Rattle.table.proofs.Laws.Stores.{write-done}
 use Rattle.table.proofs.Laws.Shifted.{swap-last-done}
 use Rattle.table.proofs.Laws.Cut.{resize-more-done, resize-same-done}
 
 module _ (t : Tray) (o : Outcome) (ok : invalid vector t ≡ false) where
-  pub vector-write-done : (i x : ℕ) → i < t .len → o ≡ gives (getD (t .slots) i 0) 0 0 (t .len) (set (t .slots) i x) → o ≡ does vector (write i x) t
-  vector-write-done i x h eo = write-done vector t o ok i x i h refl eo
+  pub vector-write-done : Homed vector t → (i x : ℕ) → i < t .len → o ≡ gives (getD (t .slots) i 0) 0 (t .head) (t .len) (set (t .slots) i x)
+      → o ≡ does vector (write i x) t
+  vector-write-done home i x h eo = write-done vector t o ok home i x i h refl eo
 
   -- swap_remove of the last only empties its slot: what it would store back is what the slot holds
   pub vector-swap-last-done : (i : ℕ) → i < t .len → i ≡ t .len - 1
@@ -30,9 +32,9 @@ module _ (t : Tray) (o : Outcome) (ok : invalid vector t ≡ false) where
   vector-swap-last-done i h e eo = swap-last-done t o ok i h e (cc (eo, e, set-getD (t .slots) (t .len - 1) 0))
 
   -- resize to no fewer: the entries that are added may be none
-  pub vector-resize-more-done : (i x : ℕ) (u : List ℕ) → i ≤ cap t → t .len ≤ i → Filled itself (t .len) i x (t .slots) u
+  pub vector-resize-more-done : Homed vector t → (i x : ℕ) (u : List ℕ) → i ≤ cap t → t .len ≤ i → Filled itself (t .len) i x (t .slots) u
       → o ≡ gives 0 0 0 i u → o ≡ does vector (resize i x) t
-  vector-resize-more-done i x u fits h m eo = ⊎-elim more same (below? (t .len) i)
+  vector-resize-more-done home i x u fits h m eo = ⊎-elim more same (below? (t .len) i)
     where
       more : t .len < i → o ≡ does vector (resize i x) t
       more lt = resize-more-done vector t o ok i x u fits lt m eo
@@ -41,4 +43,4 @@ module _ (t : Tray) (o : Outcome) (ok : invalid vector t ≡ false) where
       same le =
           let e : i ≡ t .len = omega arith in
           let kept : u ≡ t .slots = one-fill _ _ (t .len) (t .len) x (t .slots) u (t .slots) (fit vector t ok .placed) (rw e at m) (fill-none _ _ _ _) in
-          resize-same-done vector t o ok i x fits h le (cc (eo, e, kept))
+          resize-same-done vector t o ok home i x fits h le (cc (eo, e, kept, home))

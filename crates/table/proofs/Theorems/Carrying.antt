@@ -22,7 +22,7 @@ use Rattle.table.specs.Tray.{Tray, cap, list, invalid}
 use Rattle.table.specs.Calls.{Call, push, pushFront, pop, popFront, insert, remove, swapRemove, write, truncate, resize, clear, extend, look}
 use Rattle.table.specs.Calls.{Call2, append, splitOff, clone, fromIter, same, equal}
 use Rattle.table.specs.Table.{Row, row, row2, after, after2}
-use Rattle.table.specs.Does.{headIn, relay, rowOf, rowOf2, refusalsOf2, refused2, done2, does, does2}
+use Rattle.table.specs.Does.{headAfter, relay, rowOf, rowOf2, refusalsOf2, refused2, done2, does, does2}
 use Rattle.table.specs.Ledger.{Flow, flow}
 use Rattle.table.proofs.Laws.Refusals.{Clear, clear-of}
 use Rattle.table.proofs.Laws.Valid.{fit, ring-facts}
@@ -150,15 +150,16 @@ carried2 c h c2 h2 same l l2 = same-true l
 carried2 c h c2 h2 equal l l2 = same-true l
 
 -- IN THE SLOTS: an entry that is carried stands in the slot of its new position, wherever the ring wraps.
-stands : (k : Kind) (t : Tray) (l : List ℕ) (head : ℕ) → Placing (cap t) (place k (cap t) head) (pos k (cap t) head) → length l ≤ cap t
-    → (p : ℕ) → p < length l → getD (relay k t l head .slots) (place k (cap t) head p) 0 ≡ getD l p 0
+stands : (k : Kind) (t : Tray) (l : List ℕ) (head : ℕ)
+    → Placing (cap t) (place k (cap t) (headAfter k (length l) head)) (pos k (cap t) (headAfter k (length l) head)) → length l ≤ cap t
+    → (p : ℕ) → p < length l → getD (relay k t l head .slots) (place k (cap t) (headAfter k (length l) head) p) 0 ≡ getD l p 0
 stands k t l head placed room p h = sym (entry _ (length l) _ p h) ∙ ap (λ z. getD z p 0) (entries-relaid _ _ _ (t .len) l (t .slots) placed room)
 
 -- the head afterwards is one that positions are counted from
-headed-after : (k : Kind) (t : Tray) → invalid k t ≡ false → (h : ℕ) → (t .head ≤ cap t - 1 → h ≤ cap t - 1)
-    → Placing (cap t) (place k (cap t) (headIn k h)) (pos k (cap t) (headIn k h))
-headed-after ring t ok h f = placing ring (cap t) h (f (ring-facts _ _ _ ok .inside))
-headed-after vector t ok h f = placing vector (cap t) 0 (omega arith)
+headed-after : (k : Kind) (t : Tray) → invalid k t ≡ false → (n h : ℕ) → (t .head ≤ cap t - 1 → h ≤ cap t - 1)
+    → Placing (cap t) (place k (cap t) (headAfter k n h)) (pos k (cap t) (headAfter k n h))
+headed-after ring t ok n h f = placing ring (cap t) h (f (ring-facts _ _ _ ok .inside))
+headed-after vector t ok n h f = placing vector (cap t) 0 (omega arith)
 
 pub carried-slots : (k : Kind) (t : Tray) (call : Call) → invalid k t ≡ false → Clear (rowOf k call t .refusals)
     → (j p : ℕ) → j < t .len → rowOf k call t .carry j ≡ to p
@@ -172,7 +173,7 @@ carried-slots k t call ok none j p h e =
     let head : t .head ≤ cap t - 1 → rowOf k call t .head ≤ cap t - 1 = λ i. rw (many k t) at (rows.headed call (cap t) (t .head) l i fits clear-on) in
     let lt : j < length l = omega (arith, many k t) in
     rw (done-is k t call ok none)
-    (stands k t (after call l) (headIn k (rowOf k call t .head)) (headed-after k t ok _ head) room p (c .inside j p lt e) ∙ c .entry j p lt e ∙ at k t j _ h refl)
+    (stands k t (after call l) (rowOf k call t .head) (headed-after k t ok _ _ head) room p (c .inside j p lt e) ∙ c .entry j p lt e ∙ at k t j _ h refl)
 
 -- of the first of two
 pub carried-slots2 : (k k2 : Kind) (t t2 : Tray) (call : Call2) → invalid k t ≡ false → invalid k2 t2 ≡ false → Clear (rowOf2 k k2 call t t2 .refusals)
@@ -190,7 +191,7 @@ carried-slots2 k k2 t t2 call ok ok2 none j p h e =
     let lt : j < length l = omega (arith, many k t) in
     let all : Clear (refusalsOf2 k k2 call t t2) = (ok, (ok2, none)) in
     rw (clear-of (refused2 t t2 (rowOf2 k k2 call t t2 .given)) (refusalsOf2 k k2 call t t2) (done2 k k2 t t2 (after2 call l l2) (rowOf2 k k2 call t t2)) all)
-    (stands k t (after2 call l l2 .0) (t .head) (fit k t ok .placed) room p (c .inside j p lt e) ∙ c .entry j p lt e ∙ at k t j _ h refl)
+    (stands k t (after2 call l l2 .0) (t .head) (headed-after k t ok _ _ (λ i. i)) room p (c .inside j p lt e) ∙ c .entry j p lt e ∙ at k t j _ h refl)
 
 -- THOSE THAT ARE NOT CARRIED: the entries that a carrying leaves out, in their order.
 abbrev pub unlessTo : Carried → ℕ → List ℕ → List ℕ

@@ -4,13 +4,13 @@ use Prim.Native.Nat.{ℕ, _≤_, _<_}
 use mathlib.Core.Path.{_≡_, refl}
 use mathlib.Core.List.{List}
 use lib.ListN.{length, getD}
-use Rattle.slots.specs.Layout.{Kind, ring, vector, place, pos}
+use Rattle.slots.specs.Layout.{Kind, place, pos}
 use Rattle.slots.specs.Moves.{moved}
 use Rattle.slots.proofs.Relaid.{relaid-entry, relaid-emptied, relaid-untouched}
 use Rattle.table.specs.Tray.{Tray, cap, list}
 use Rattle.table.specs.Calls.{Call, Call2, Making}
 use Rattle.table.specs.Table.{Row, Row2, after, after2, begins, makes}
-use Rattle.table.specs.Does.{Outcome, headIn, relay, done, rowOf, does, bare, made}
+use Rattle.table.specs.Does.{Outcome, headAfter, relay, done, rowOf, does, bare, made}
 use Rattle.table.specs.Does.{Outcome2, done2, rowOf2, does2}
 use Rattle.table.proofs.Laws.Keeps.{relay-list}
 use Rattle.table.proofs.Theorems.Refused.{call-settled, call-clear, two-settled, two-clear, made-settled, made-clear}
@@ -27,14 +27,9 @@ pub record Afterwards (k : Kind) (t : Tray) (l : List ℕ) (h : ℕ) (now : Tray
   pub untouched : (s : ℕ) → s < cap t → length l ≤ pos k (cap t) (now .head) s → t .len ≤ pos k (cap t) (t .head) s
       → getD (now .slots) s 0 ≡ getD (t .slots) s 0
 
--- a vector's list does not ask for its head
-relay-lists : (k : Kind) (t : Tray) (l : List ℕ) (h : ℕ) → Leaves k t l h → list k (relay k t l h) ≡ l
-relay-lists ring t l h left = relay-list ring t l h (left .inside) (left .room)
-relay-lists vector t l h left = relay-list vector t l 0 (left .inside) (left .room)
-
-relay-after : (k : Kind) (t : Tray) (l : List ℕ) (h : ℕ) → Leaves k t l h → Afterwards k t l h (relay k t l h)
+relay-after : (k : Kind) (t : Tray) (l : List ℕ) (h : ℕ) → Leaves k t l h → Afterwards k t l (headAfter k (length l) h) (relay k t l h)
 relay-after k t l h left = record {
-  listed = relay-lists k t l h left;
+  listed = relay-list k t l h (left .inside) (left .room);
   head = refl;
   len = refl;
   entry = relaid-entry _ _ (t .len) l (t .slots);
@@ -44,13 +39,13 @@ relay-after k t l h left = record {
 
 -- what a done call on one container, or a making, tells: l is the list afterwards, r the row
 pub record Listed (k : Kind) (t : Tray) (l : List ℕ) (r : Row) (o : Outcome) : Type 0 where
-  pub tray : Afterwards k t l (headIn k (r .head)) (o .tray)
+  pub tray : Afterwards k t l (headAfter k (length l) (r .head)) (o .tray)
   pub value : o .value ≡ r .value
   pub moves : o .moves ≡ moved (place k (cap t) (t .head)) (place k (cap t) (o .tray .head)) (r .carry) (t .len)
   pub cursor : o .cursor ≡ r .cursor
 
-done-listed : (k : Kind) (t : Tray) (l : List ℕ) (r : Row) → Leaves k t l (headIn k (r .head)) → Listed k t l r (done k t l r)
-done-listed k t l r left = record { tray = relay-after k t l (headIn k (r .head)) left; value = refl; moves = refl; cursor = refl }
+done-listed : (k : Kind) (t : Tray) (l : List ℕ) (r : Row) → Leaves k t l (r .head) → Listed k t l r (done k t l r)
+done-listed k t l r left = record { tray = relay-after k t l (r .head) left; value = refl; moves = refl; cursor = refl }
 
 -- A call on one container. Here and below o is what is seen of a call, as its promise says.
 pub call-listed : (k : Kind) (call : Call) (t : Tray) (o : Outcome) → o ≡ does k call t → o .number ≡ 0 → Listed k t (after call (list k t)) (rowOf k call t) o
@@ -67,8 +62,8 @@ made-listed k m slots o promised zero =
 
 -- A call on two: both lists, and T's head.
 pub record Listed2 (k k2 : Kind) (t t2 : Tray) (ls : List ℕ × List ℕ) (r : Row2) (o : Outcome2) : Type 0 where
-  pub first : Afterwards k t (ls .0) (t .head) (o .first)
-  pub second : Afterwards k2 t2 (ls .1) (r .head2) (o .second)
+  pub first : Afterwards k t (ls .0) (headAfter k (length (ls .0)) (t .head)) (o .first)
+  pub second : Afterwards k2 t2 (ls .1) (headAfter k2 (length (ls .1)) (r .head2)) (o .second)
   pub value : o .value ≡ r .value
   pub moves : o .moves ≡ moved (place k (cap t) (t .head)) (place k (cap t) (o .first .head)) (r .carry) (t .len)
   pub cursor : o .cursor ≡ r .cursor

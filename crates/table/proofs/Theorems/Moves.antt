@@ -20,7 +20,7 @@ use Rattle.table.specs.Tray.{Tray, cap, list, invalid, nowhere}
 use Rattle.table.specs.Calls.{Call, push, pushFront, pop, popFront, insert, remove, swapRemove, write, truncate, resize, clear, extend, look, has}
 use Rattle.table.specs.Calls.{Call2, append, splitOff, clone, fromIter, same, equal, Making}
 use Rattle.table.specs.Table.{headBack, headOn, after, after2, begins, makes}
-use Rattle.table.specs.Does.{Outcome, Outcome2, refused, refused2, rowOf, rowOf2, refusalsOf, refusalsOf2, refusalsMade, done, done2, does, does2, bare, made}
+use Rattle.table.specs.Does.{Outcome, Outcome2, refused, refused2, headAfter, rowOf, rowOf2, refusalsOf, refusalsOf2, refusalsMade, done, done2, does, does2, bare, made}
 use Rattle.table.specs.Ledger.{ifDone}
 use Rattle.table.proofs.Laws.Refusals.{Clear, either, if-refused}
 use Rattle.table.proofs.Laws.Valid.{fit, ring-inside}
@@ -171,25 +171,29 @@ swap-moves k t ok i h =
     (λ (ne : i ≡ t .len - 1 → ⊥). rw (ne-eqb _ _ ne) (swap-moves-one _ (t .len) i h ne (λ e. ne (one-slot (f .placed) i (t .len - 1) (omega arith) (omega arith) e))))
     (same? i (t .len - 1))
 
+-- where the row keeps the head, a position keeps its slot
+stays-put : (k : Kind) (t : Tray) (call : Call) → place k (cap t) (headAfter k (length (after call (list k t))) (t .head)) ≡ place k (cap t) (t .head)
+stays-put k t call = same-place k (cap t) (length (after call (list k t))) (t .head)
+
 row-moves : (k : Kind) (t : Tray) (call : Call) → has call k ≡ true → (all : Clear (refusalsOf k call t))
     → done k t (after call (list k t)) (rowOf k call t) .moves ≡ movesIn k (t .len) call
-row-moves k t (push x) of e = rw (same-place k (cap t) (t .head)) (moved-stay _ (t .len))
+row-moves k t (push x) of e = rw (stays-put k t (push x)) (moved-stay _ (t .len))
 row-moves ring t (pushFront x) of e = insert-low t (e .0) 0 (omega arith) (omega passed-tests)
 row-moves vector t (pushFront x) of e = let z : _≡_ {A = ℕ} 0 1 = cc in absurd (omega arith)
-row-moves k t pop of e = rw (same-place k (cap t) (t .head)) (remove-high k t (e .0) (t .len - 1) (omega passed-tests) ∙ omega arith)
+row-moves k t pop of e = rw (stays-put k t pop) (remove-high k t (e .0) (t .len - 1) (omega passed-tests) ∙ omega arith)
 row-moves ring t popFront of e = remove-low t (e .0) 0 (omega passed-tests)
 row-moves vector t popFront of e = let z : _≡_ {A = ℕ} 0 1 = cc in absurd (omega arith)
 row-moves ring t (insert i x) of e = sym (ap (λ o. o .moves) (done-is ring t (insert i x) (e .0) (e .1))) ∙ insert-moves t (e .0) i x (omega passed-tests) (omega passed-tests)
 row-moves vector t (insert i x) of e = insert-high vector t (e .0) i (omega passed-tests) (omega passed-tests)
 row-moves ring t (remove i) of e = sym (ap (λ o. o .moves) (done-is ring t (remove i) (e .0) (e .1))) ∙ remove-moves t (e .0) i (omega passed-tests)
 row-moves vector t (remove i) of e = remove-high vector t (e .0) i (omega passed-tests)
-row-moves k t (swapRemove i) of e = rw (same-place k (cap t) (t .head)) (swap-moves k t (e .0) i (omega passed-tests))
-row-moves k t (write i x) of e = rw (same-place k (cap t) (t .head)) (moved-replaced _ i (t .len))
-row-moves k t (truncate m) of e = rw (same-place k (cap t) (t .head)) (moved-kept _ m (t .len))
-row-moves k t (resize m x) of e = rw (same-place k (cap t) (t .head)) (moved-kept _ m (t .len))
+row-moves k t (swapRemove i) of e = rw (stays-put k t (swapRemove i)) (swap-moves k t (e .0) i (omega passed-tests))
+row-moves k t (write i x) of e = rw (stays-put k t (write i x)) (moved-replaced _ i (t .len))
+row-moves k t (truncate m) of e = rw (stays-put k t (truncate m)) (moved-kept _ m (t .len))
+row-moves k t (resize m x) of e = rw (stays-put k t (resize m x)) (moved-kept _ m (t .len))
 row-moves k t clear of e = moved-none _ _ (t .len)
-row-moves k t (extend s) of e = rw (same-place k (cap t) (t .head)) (moved-stay _ (t .len))
-row-moves k t (look q) of e = rw (same-place k (cap t) (t .head)) (moved-stay _ (t .len))
+row-moves k t (extend s) of e = rw (stays-put k t (extend s)) (moved-stay _ (t .len))
+row-moves k t (look q) of e = rw (stays-put k t (look q)) (moved-stay _ (t .len))
 
 -- A call that its kind has, on any container.
 pub moves-of : (k : Kind) (call : Call) (t : Tray) → has call k ≡ true → does k call t .moves ≡ ifDone (does k call t .number) (movesIn k (t .len) call) 0
@@ -207,7 +211,7 @@ moves-of2 k k2 call t t2 =
     either (λ (o : Outcome2). o .moves ≡ 0) (refused2 t t2 (rowOf2 k k2 call t t2 .given)) (refusalsOf2 k k2 call t t2)
     (done2 k k2 t t2 (after2 call (list k t) (list k2 t2)) (rowOf2 k k2 call t t2))
     (λ r. refl)
-    (λ none. go call)
+    (λ none. rw (same-place k (cap t) (length (after2 call (list k t) (list k2 t2) .0)) (t .head)) (go call))
   where
     go : (call : Call2) → moved (place k (cap t) (t .head)) (place k (cap t) (t .head)) (rowOf2 k k2 call t t2 .carry) (t .len) ≡ 0
     go append = moved-stay _ (t .len)

@@ -15,21 +15,21 @@ use Rattle.slots.proofs.Relaid.{length-relaid}
 use Rattle.table.specs.Tray.{Tray, cap, list, valid, invalid, nowhere}
 use Rattle.table.specs.Calls.{Call, Call2, Making, new, withCapacity, fromElem}
 use Rattle.table.specs.Table.{row, row2, after, after2, begins, makes}
-use Rattle.table.specs.Does.{Outcome, refused, headIn, relay, done, rowOf, refusalsOf, does, bare, refusalsMade, made}
+use Rattle.table.specs.Does.{Outcome, refused, headAfter, relay, done, rowOf, refusalsOf, does, bare, refusalsMade, made}
 use Rattle.table.specs.Does.{Outcome2, refused2, done2, rowOf2, refusalsOf2, does2}
 use Rattle.table.proofs.Laws.Refusals.{Clear, either, both-hold, not-fails}
 use Rattle.table.proofs.Laws.Valid.{Valid, ring-facts, vector-facts}
-use Rattle.table.proofs.Laws.Done.{many}
+use Rattle.table.proofs.Laws.Done.{no-head, many}
 use Rattle.table.proofs.Laws.Rows.{kept, made-room, kept2, headed, headed2}
 use Rattle.table.proofs.Laws.Keeps.{head-in}
 
 -- valid in numbers, both ways; a vector has no head
-pub facts : (k : Kind) (t : Tray) → invalid k t ≡ false → Valid (cap t) (headIn k (t .head)) (t .len)
+pub facts : (k : Kind) (t : Tray) → invalid k t ≡ false → Valid (cap t) (headAfter k (t .len) (t .head)) (t .len)
 unfolding valid
 facts ring t ok = ring-facts (cap t) (t .head) (t .len) ok
 facts vector t ok = vector-facts (cap t) (t .len) ok
 
-pub valid-of : (k : Kind) (c h n : ℕ) → Valid c (headIn k h) n → valid k c h n ≡ true
+pub valid-of : (k : Kind) (c h n : ℕ) → Valid c (headAfter k n h) n → valid k c (headAfter k n h) n ≡ true
 unfolding valid
 valid-of ring c h n v =
     both-hold (leb c 4096) _ (le-leb c 4096 (v .small)) (both-hold (leb n c) _ (le-leb n c (v .fits)) (⊎-elim
@@ -41,18 +41,18 @@ valid-of vector c h n v = both-hold (leb n c) _ (le-leb n c (v .fits)) (le-leb c
 -- What a done call leaves: a list for which there is room, and a head that is a slot.
 pub record Leaves (k : Kind) (t : Tray) (l : List ℕ) (head : ℕ) : Type 0 where
   pub room : length l ≤ cap t
-  pub inside : headIn k head ≤ cap t - 1
+  pub inside : headAfter k (length l) head ≤ cap t - 1
 
 pub relay-valid : (k : Kind) (t : Tray) (l : List ℕ) (head : ℕ) → cap t ≤ 4096 → Leaves k t l head → invalid k (relay k t l head) ≡ false
 relay-valid k t l head few left =
     rw length-relaid (not-fails _ (valid-of k (cap t) head (length l) (record { small = few; fits = left .room; inside = left .inside })))
 
 -- a step that keeps a ring's head inside keeps a vector's, which is 0
-stays-in : (k : Kind) (h h′ m : ℕ) → (h ≤ m → h′ ≤ m) → headIn k h ≤ m → headIn k h′ ≤ m
-stays-in ring h h′ m step ok = step ok
-stays-in vector h h′ m step ok = omega arith
+stays-in : (k : Kind) (n n′ h h′ m : ℕ) → (h ≤ m → h′ ≤ m) → headAfter k n h ≤ m → headAfter k n′ h′ ≤ m
+stays-in ring n n′ h h′ m step ok = step ok
+stays-in vector n n′ h h′ m step ok = omega arith
 
-pub call-leaves : (k : Kind) (call : Call) (t : Tray) → Clear (refusalsOf k call t) → Leaves k t (after call (list k t)) (headIn k (rowOf k call t .head))
+pub call-leaves : (k : Kind) (call : Call) (t : Tray) → Clear (refusalsOf k call t) → Leaves k t (after call (list k t)) (rowOf k call t .head)
 call-leaves k call t clear =
     let was = facts k t (clear .0) in
     let n-is : length (list k t) ≡ t .len = many k t in
@@ -61,7 +61,7 @@ call-leaves k call t clear =
     record {
       room = kept 0 (cap t) (t .head) call (list k t) fits none .room;
       inside =
-          head-in k _ _ (stays-in k (t .head) _ _ (λ ok. rw n-is at (headed call (cap t) (t .head) (list k t) ok fits none)) (was .inside));
+          stays-in k _ _ (t .head) _ _ (λ ok. rw n-is at (headed call (cap t) (t .head) (list k t) ok fits none)) (was .inside);
     }
 
 -- of a call on two: the first keeps its head
@@ -81,16 +81,16 @@ two-leave k k2 call t t2 clear =
     let none : Clear (row2 (cap t) (t .head) (length l) l (cap t2) (t2 .head) (length l2) l2 call .refusals) = rw (n-is, n2-is) (clear .1 .1) in
     let rooms = kept2 0 (cap t) (t .head) (cap t2) (t2 .head) call l l2 (omega (arith, was .fits)) (omega (arith, was2 .fits)) none in
     record {
-      first = record { room = rooms .room; inside = was .inside };
+      first = record { room = rooms .room; inside = stays-in k _ _ (t .head) _ _ (λ ok. ok) (was .inside) };
       second = record {
         room = rooms .room2;
-        inside = stays-in k2 (t2 .head) _ _ (headed2 call (cap t) (t .head) (t .len) l (cap t2) (t2 .head) (t2 .len) l2) (was2 .inside);
+        inside = stays-in k2 _ _ (t2 .head) _ _ (headed2 call (cap t) (t .head) (t .len) l (cap t2) (t2 .head) (t2 .len) l2) (was2 .inside);
       };
     }
 
 pub made-leaves : (k : Kind) (m : Making) (slots : List ℕ) → Clear (refusalsMade m slots)
-    → Leaves k (bare slots) (begins m) (headIn k (makes (length slots) m .head))
-made-leaves k m slots clear = record { room = made-room (length slots) m (clear .1); inside = head-in k _ _ (head-in k _ _ (start m)) }
+    → Leaves k (bare slots) (begins m) (makes (length slots) m .head)
+made-leaves k m slots clear = record { room = made-room (length slots) m (clear .1); inside = head-in k _ _ _ (start m) }
   where
     start : (m : Making) → makes (length slots) m .head ≤ length slots - 1
     start new = omega arith
@@ -127,7 +127,8 @@ module _ (k k2 : Kind) (call : Call2) (t t2 : Tray) (o : Outcome2) (promised : o
 -- state 0, 0 is valid on at most 4,096 slots
 pub bare-valid : (k : Kind) (slots : List ℕ) → length slots ≤ 4096 → invalid k (bare slots) ≡ false
 bare-valid k slots few =
-    not-fails _ (valid-of k (length slots) 0 0 (record { small = few; fits = omega arith; inside = head-in k 0 _ (omega arith) }))
+    let v = valid-of k (length slots) 0 0 (record { small = few; fits = omega arith; inside = head-in k 0 0 _ (omega arith) }) in
+    not-fails _ (rw (no-head k 0) at v)
 
 -- A making, refused or not.
 module _ (k : Kind) (m : Making) (slots : List ℕ) (o : Outcome) (promised : o ≡ made k m slots) where

@@ -1,18 +1,9 @@
--- `Cursor::ring_into_iter` meets its promise: nothing is stored, and the cursor spans the list.
+-- `Cursor::ring_into_iter` meets its promise: the rows of `iter` and `into_iter` say the same.
 use borrow.Author.Needs.{needs}
 use Rattle.table.specs.Does.{does}
-use Rattle.table.proofs.Laws.Looks.{into-iter-done}
-use Rattle.cursors.proofs.Told.{refusals, shown}
 use Rattle.cursors.proofs.Cursor.ring_into_iter.Statement.{statement}
 use Rattle.cursors.proofs.Cursor.ring_into_iter.Tie as tie
 
 pub ring-into-iter-spec : {M : Type 1} → statement M
 unfolding does
-ring-into-iter-spec =
-    tie.close
-    (tie.spec
-    (λ c κs. search needs)
-    (λ c κs. search needs)
-    (λ c. search refusals)
-    (λ c κs. search needs)
-    (λ c. search (into-iter-done, shown)))
+ring-into-iter-spec = tie.close (tie.spec (λ c κs. search needs) (λ c. search needs))

@@ -14,10 +14,11 @@ ring-peek-front-spec =
     (tie.spec
     (λ c κs. search needs)
     (λ c. search refusals)
+    (λ c κs. search needs)
     (λ c. search refusals)
+    (λ c. omega state)
     (λ c. search refusals)
-    (λ c. search refusals)
-    (λ c. search needs)
+    (λ c. omega state)
     (λ c κs. omega state)
     (λ c. search needs)
     (λ c. search needs)

@@ -15,7 +15,7 @@ ring-step-back-spec =
     (λ c κs. search needs)
     (λ c κs. search needs)
     (λ c. search refusals)
-    (λ c. search refusals)
+    (λ c κs. search needs)
     (λ c. search refusals)
     (λ c. search refusals)
     (λ c. omega state)

@@ -14,10 +14,11 @@ vector-peek-front-spec =
     (tie.spec
     (λ c κs. search needs)
     (λ c. search refusals)
+    (λ c κs. search needs)
     (λ c. search refusals)
+    (λ c. omega state)
     (λ c. search refusals)
-    (λ c. search refusals)
-    (λ c. search needs)
+    (λ c. omega state)
     (λ c. omega state)
     (λ c. omega state)
     (λ c. search (vector-peek-front-done, shown)))

@@ -15,10 +15,10 @@ equal-spec =
     (tie.spec
     (λ c κs. search needs)
     (λ c κs. search needs)
-    (λ c. search refusals)
+    (λ c. search refusals depth 9)
     (λ c κs. search needs)
     (λ c κs. search needs)
-    (λ c. search refusals)
+    (λ c. search refusals depth 9)
     (λ c. simp length-take (omega state))
     (λ c. simp length-take (omega state))
     (λ c κs. search needs)

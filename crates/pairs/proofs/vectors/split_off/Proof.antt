@@ -33,4 +33,4 @@ split-off-spec =
     (λ c κs. search needs)
     (λ c. search needs)
     (λ c. search needs)
-    (λ c. search (vector-split-done, shown)))
+    (λ c. search (vector-split-done, shown) depth 9))

@@ -12,6 +12,7 @@ new-spec =
     tie.close
     (tie.spec
     (λ c κs. search needs)
+    (λ c κs. search needs)
     (λ c. search refusals)
     (λ c κs. search needs)
     (λ c. search (new-done, shown)))

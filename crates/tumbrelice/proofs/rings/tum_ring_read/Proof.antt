@@ -1,6 +1,6 @@
 -- `tum_ring_read` meets its promise: what is heard of the call is what is seen of it.
 use borrow.Author.Needs.{needs}
-use Rattle.tumbrelice.proofs.Words.{fits, looked-is}
+use Rattle.tumbrelice.proofs.Words.{fits-ring, ring-looked}
 use Rattle.tumbrelice.proofs.rings.tum_ring_read.Statement.{statement}
 use Rattle.tumbrelice.proofs.rings.tum_ring_read.Tie as tie
 
@@ -8,8 +8,7 @@ pub tum-ring-read-spec : {M : Type 1} → statement M
 tum-ring-read-spec =
     tie.close
     (tie.spec
-    (λ c. search needs)
-    (λ c. search needs)
     (λ c κs. search needs)
-    (λ c κs. search fits)
-    (λ c. search looked-is))
+    (λ c κs. search needs)
+    (λ c κs. search fits-ring)
+    (λ c. search ring-looked))

@@ -1,6 +1,6 @@
 -- `tum_ring_append` meets its promise: what is heard of the call is what is seen of it.
 use borrow.Author.Needs.{needs}
-use Rattle.tumbrelice.proofs.Words.{fits2, heard2-is}
+use Rattle.tumbrelice.proofs.Words.{fits-two, rings-hear}
 use Rattle.tumbrelice.proofs.two.tum_ring_append.Statement.{statement}
 use Rattle.tumbrelice.proofs.two.tum_ring_append.Tie as tie
 
@@ -8,12 +8,10 @@ pub tum-ring-append-spec : {M : Type 1} → statement M
 tum-ring-append-spec =
     tie.close
     (tie.spec
-    (λ c. search needs)
-    (λ c. search needs)
-    (λ c. search needs)
-    (λ c. search needs)
     (λ c κs. search needs)
-    (λ c κs. search fits2)
-    (λ c. search needs)
-    (λ c. search needs)
-    (λ c. search heard2-is))
+    (λ c κs. search needs)
+    (λ c κs. search needs)
+    (λ c κs. search needs)
+    (λ c κs. search needs)
+    (λ c κs. search fits-two)
+    (λ c. search rings-hear))

@@ -1,6 +1,6 @@
 -- `tum_ring_clone` meets its promise: what is heard of the call is what is seen of it.
 use borrow.Author.Needs.{needs}
-use Rattle.tumbrelice.proofs.Words.{fits2, cloned-is}
+use Rattle.tumbrelice.proofs.Words.{fits-two, rings-cloned}
 use Rattle.tumbrelice.proofs.two.tum_ring_clone.Statement.{statement}
 use Rattle.tumbrelice.proofs.two.tum_ring_clone.Tie as tie
 
@@ -8,11 +8,9 @@ pub tum-ring-clone-spec : {M : Type 1} → statement M
 tum-ring-clone-spec =
     tie.close
     (tie.spec
-    (λ c. search needs)
-    (λ c. search needs)
-    (λ c. search needs)
-    (λ c. search needs)
     (λ c κs. search needs)
-    (λ c κs. search fits2)
-    (λ c. search needs)
-    (λ c. search cloned-is))
+    (λ c κs. search needs)
+    (λ c κs. search needs)
+    (λ c κs. search needs)
+    (λ c κs. search fits-two)
+    (λ c. search rings-cloned))

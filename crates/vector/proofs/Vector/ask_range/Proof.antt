@@ -1,4 +1,4 @@
--- `Vector::ask_range` meets its promise: nothing is stored, and both ways astray are the row's one refusal.
+-- `Vector::ask_range` meets its promise: nothing is stored, and a range that is astray is the row's one refusal.
 use borrow.Author.Needs.{needs}
 use Rattle.table.specs.Does.{does}
 use Rattle.table.proofs.Laws.Looks.{range-done}
@@ -15,7 +15,6 @@ ask-range-spec =
     (λ c κs. search needs)
     (λ c. search refusals)
     (λ c κs. search needs)
-    (λ c. search refusals)
     (λ c κs. search needs)
     (λ c. search refusals)
     (λ c κs. search needs)

@@ -12,7 +12,9 @@ from-elem-spec =
     tie.close
     (tie.spec
     (λ c κs. search needs)
+    (λ c κs. search needs)
     (λ c. search refusals)
+    (λ c κs. search needs)
     (λ c κs. search needs)
     (λ c. search refusals)
     (λ c κs. search needs)

@@ -9,13 +9,13 @@ use Rattle.table.proofs.Laws.Refusals
 use Rattle.table.proofs.Laws.Looks.{shows}
 use Rattle.table.proofs.Laws.Done2.{fills}
 use Rattle.vector.specs.declared.Vector.{Vector}
-use Rattle.vector.specs.Seen.{tray, state}
+use Rattle.vector.specs.Seen.{tray}
 use Rattle.ring.proofs.Told as rings
 use Rattle.vector.proofs.Told as vectors
 use Rattle.cursors.specs.declared.Cursor.{Cursor}
 use Rattle.cursors.specs.declared.Begun.{Begun}
 use Rattle.cursors.specs.declared.Taken.{Taken}
-use Rattle.cursors.specs.Seen.{cursor, seenBegun, beginning, seenInto, taking}
+use Rattle.cursors.specs.Seen.{cursor, seenBegun, beginning, seenInto, taking, filling}
 
 pub stopped : (t : Tray) (a : Begun) (m : ℕ) → a ≡ beginning m 0 → seenBegun a t ≡ refused t nowhere m
 stopped t a m e = ap (λ a. seenBegun a t) e
@@ -27,9 +27,8 @@ pub answered : (u : Cursor) (v : Vector) (t : Tray) (s2 : List ℕ) (a : Taken) 
     → seenInto a t s2 ≡ refused2 t (tray v s2) (cursor u) m
 answered u v t s2 a m e = ap (λ a. seenInto a t s2) e
 
-pub told : (t : Tray) (s2 : List ℕ) (a : Taken) (v : Vector) (n back : ℕ) → a ≡ taking 0 (record { front = back; back = back }) v → v ≡ state n
-    → seenInto a t s2 ≡ fills t n s2 back
-told t s2 a v n back e ev = rw (e, ev)
+pub told : (t : Tray) (s2 : List ℕ) (a : Taken) (n back : ℕ) → a ≡ filling back back n → seenInto a t s2 ≡ fills t n s2 back
+told t s2 a n back e = ap (λ a. seenInto a t s2) e
 
 pub ruleset refusals = (stopped, answered, stops, Refusals.refusals)
 

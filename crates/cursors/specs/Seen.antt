@@ -5,7 +5,7 @@ use Rattle.table.specs.Tray.{Tray, Cursor}
 use Rattle.table.specs.Table.{firstInvalid, beyond, empty, numberOf}
 use Rattle.table.specs.Does.{Outcome, Outcome2}
 use Rattle.vector.specs.declared.Vector.{Vector}
-use Rattle.vector.specs.Seen.{tray}
+use Rattle.vector.specs.Seen.{tray, state}
 use Rattle.cursors.specs.declared.Cursor as code
 use Rattle.cursors.specs.declared.Begun.{Begun}
 use Rattle.cursors.specs.declared.Taken.{Taken}
@@ -47,9 +47,12 @@ abbrev pub seenInto : Taken → Tray → List ℕ → Outcome2
 seenInto a t theirs =
     record { number = a .number; value = 0; moves = 0; first = t; second = tray (a .vector) theirs; cursor = cursor (a .cursor) }
 
--- what the private functions `began` and `took` answer
+-- what the private functions `began`, `took` and `filled` answer
 abbrev pub beginning : (number back : ℕ) → Begun
 beginning number back = record { number = number; cursor = record { front = 0; back = back } }
 
 abbrev pub taking : ℕ → code.Cursor → Vector → Taken
 taking number u v = record { number = number; cursor = u; vector = v }
+
+abbrev pub filling : (front back count : ℕ) → Taken
+filling front back count = taking 0 (record { front = front; back = back }) (state count)

@@ -4,7 +4,7 @@ pub mod over_vector; // over_vector.rt: a cursor's calls over a vector
 
 use vector::Vector;
 ghost use mathlib.Core.Path.{_≡_};
-ghost use Rattle.cursors.specs.Seen.{beginning, taking};
+ghost use Rattle.cursors.specs.Seen.{beginning, taking, filling};
 
 pub struct Cursor {
     pub front: usize,
@@ -52,4 +52,11 @@ fn took(number: u8, cursor: Cursor, vector: Vector) -> Taken
         cursor,
         vector,
     }
+}
+
+// A from_iter that is done: the cursor afterwards, and how many entries T has.
+fn filled(front: usize, back: usize, count: usize) -> Taken
+    ensures { λ r. ⌜ r ≡ filling front back count ⌝ }
+{
+    took(0, Cursor { front, back }, vector::state(count))
 }

@@ -4,6 +4,7 @@ use super::Cursor;
 use super::Step;
 use super::Taken;
 use super::began;
+use super::filled;
 use super::took;
 use ring::Ring;
 use vector::Vector;
@@ -156,11 +157,11 @@ impl Cursor {
             return took(6, self, to);
         }
         if front == back {
-            return took(0, Cursor { front: back, back }, vector::state(0));
+            return filled(back, back, 0);
         }
         let count = back - front;
         let from = slots::slot(cap, head, front);
         runs::copy::carry(theirs, 0, 0, slots, from, count);
-        took(0, Cursor { front: back, back }, vector::state(count))
+        filled(back, back, count)
     }
 }

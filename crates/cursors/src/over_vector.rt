@@ -4,6 +4,7 @@ use super::Cursor;
 use super::Step;
 use super::Taken;
 use super::began;
+use super::filled;
 use super::took;
 use vector::Vector;
 ghost use mathlib.Core.Path.{_≡_};
@@ -155,6 +156,6 @@ impl Cursor {
         }
         let count = back - front;
         runs::copy::run_copy(theirs, 0, &slots[front..], count);
-        took(0, Cursor { front: back, back }, vector::state(count))
+        filled(back, back, count)
     }
 }

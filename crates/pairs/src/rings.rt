@@ -38,7 +38,7 @@ pub fn append(first: Ring, slots: &mut [u32], second: Ring, theirs: &mut [u32]) 
     }
     runs::copy::carry(slots, head, len, theirs, from, count);
     runs::fill(theirs, from, 0, count, 0);
-    parted(head, len + count, 0)
+    parted(0, head, len + count, 0, 0)
 }
 
 // The first keeps its entries before at, and T, which is empty, gets the others.
@@ -77,7 +77,7 @@ pub fn split_off(
     let from = slots::slot(cap, head, at);
     runs::copy::carry(theirs, 0, 0, slots, from, len - at);
     runs::fill(slots, head, at, len, 0);
-    parted(head, at, len - at)
+    parted(0, head, at, 0, len - at)
 }
 
 // T, which is empty, gets a copy of the entries.
@@ -165,9 +165,9 @@ fn done(value: u32, first: Ring, second: Ring) -> Both
     says(0, value, first, second)
 }
 
-// A call that is done and has changed both: T's head is 0 afterwards.
-fn parted(head: usize, len: usize, len2: usize) -> Both
-    ensures { λ r. ⌜ r ≡ says 0 0 (state head len) (state 0 len2) ⌝ }
+// A call that is done and has changed both states.
+fn parted(value: u32, head: usize, len: usize, head2: usize, len2: usize) -> Both
+    ensures { λ r. ⌜ r ≡ says 0 value (state head len) (state head2 len2) ⌝ }
 {
-    done(0, ring::state(head, len), ring::state(0, len2))
+    done(value, ring::state(head, len), ring::state(head2, len2))
 }

@@ -32,7 +32,7 @@ pub fn append(first: Vector, slots: &mut [u32], second: Vector, theirs: &mut [u3
     }
     runs::copy::run_copy(slots, len, theirs, count);
     runs::run_fill(theirs, 0, count, 0);
-    parted(len + count, 0)
+    parted(0, len + count, 0)
 }
 
 // The first keeps its entries before at, and T, which is empty, gets the others.
@@ -65,7 +65,7 @@ pub fn split_off(
     }
     runs::copy::run_copy(theirs, 0, &slots[at..], len - at);
     runs::run_fill(slots, at, len, 0);
-    parted(at, len - at)
+    parted(0, at, len - at)
 }
 
 // T, which is empty, gets a copy of the entries.
@@ -136,9 +136,9 @@ fn done(value: u32, first: Vector, second: Vector) -> Both
     says(0, value, first, second)
 }
 
-// A call that is done and has changed both.
-fn parted(len: usize, len2: usize) -> Both
-    ensures { λ r. ⌜ r ≡ says 0 0 (state len) (state len2) ⌝ }
+// A call that is done and has changed both states.
+fn parted(value: u32, len: usize, len2: usize) -> Both
+    ensures { λ r. ⌜ r ≡ says 0 value (state len) (state len2) ⌝ }
 {
-    done(0, vector::state(len), vector::state(len2))
+    done(value, vector::state(len), vector::state(len2))
 }

@@ -16,13 +16,6 @@ pub fn word(n: usize) -> u32
     n as u32
 }
 
-// An entry as a number of 64 bits.
-pub fn number(x: u32) -> u64
-    ensures { λ r. ⌜ r ≡ x ⌝ }
-{
-    x as u64
-}
-
 // Each entry of a part takes the place of the one below, and the first is lost. Over the whole of a lent part LLVM makes one block move of it.
 fn down(part: &mut [u32])
     ensures { λ _. ⌜ MovedDown itself 0 (length (now (part .entry)) - 1) (now (part .entry)) (now (part .exit)) ⌝ }

@@ -34,7 +34,7 @@ fn put_line(text: &mut [u8], at: usize, x: u32)
     requires { ⌜ at + 9 ≤ length (now text) ⌝ }
     ensures { λ _. ⌜ now (text .exit) ≡ put (now (text .entry)) at (slotLine x) ⌝ }
 {
-    digits::put_hex(text, at, 8, runs::number(x));
+    digits::put_hex(text, at, 8, x as u64);
     text[at + 8] = 10;
 }
 

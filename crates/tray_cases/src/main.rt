@@ -1,8 +1,8 @@
 // The program `tray` once more, on cases that the listing of paper 01 has not: every operation of every kind, refusals, and damaged lines.
-use tray_lines::feeds::Fed;
-use tray_lines::feeds::State;
 use libc::STDIN_FILENO;
 use libc::STDOUT_FILENO;
+use tray_lines::feeds::Fed;
+use tray_lines::feeds::State;
 ghost use mathlib.Core.Path.{_≡_};
 ghost use Prim.Native.Nat.{_*_, _≤_};
 ghost use lib.ListN.{length};

@@ -84,6 +84,14 @@ above-zero empty = omega arith
 above-zero taken = omega arith
 above-zero full = omega arith
 
+pub below-16 : (r : Refusal) → numberOf r < 16
+below-16 firstInvalid = omega arith
+below-16 secondInvalid = omega arith
+below-16 beyond = omega arith
+below-16 empty = omega arith
+below-16 taken = omega arith
+below-16 full = omega arith
+
 -- the number of the first refusal that applies; 0 where none does
 abbrev pub firstNumber : List (Bool × Refusal) → ℕ
 firstNumber rs = firstRefusal (λ m. m) rs 0

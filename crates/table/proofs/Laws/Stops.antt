@@ -161,6 +161,12 @@ module _ (a b n : ℕ) (s : Bool) where
   pub in-reach : Strays a b n s → s ≡ false → b ≤ n
   in-reach t go = leb-true b n (and-right (leb a b) _ (not-false (within a b n) (sym (t .is) ∙ go)))
 
+  pub is-astray : Strays a b n s → s ≡ true → not (within a b n) ≡ true
+  is-astray t stop = sym (t .is) ∙ stop
+
+  pub not-astray : Strays a b n s → s ≡ false → not (within a b n) ≡ false
+  not-astray t go = sym (t .is) ∙ go
+
   pub strays : s ≡ not (within a b n) → (a < 2 ^ 64) × (b < 2 ^ 64) → Strays a b n s
   strays e u = record {
     is = e;
@@ -168,4 +174,4 @@ module _ (a b n : ℕ) (s : Bool) where
     fits = gated s b n (u .1) (λ go. leb-true b n (and-right (leb a b) _ (not-false (within a b n) (sym e ∙ go))));
   }
 
-pub ruleset stops = (in-order, in-reach, valid-past, below-past, bound-fails, some-past, none-held, within-past, ordered-past, apart-past, meets)
+pub ruleset stops = (is-astray, not-astray, in-order, in-reach, valid-past, below-past, bound-fails, some-past, none-held, within-past, ordered-past, apart-past, meets)

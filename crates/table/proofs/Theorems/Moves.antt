@@ -16,14 +16,14 @@ use Rattle.slots.proofs.Words.{below?, same?}
 use Rattle.slots.proofs.Placing.{placing, one-slot, slot-inside, slot-back, slot-on}
 use Rattle.slots.proofs.Moves.{moved-each, tally-before, tally-from, tally-past, insert-low-each, insert-high-each, remove-low-each, remove-high-each}
 use Rattle.slots.proofs.Moves.{moved-stay, moved-kept, moved-none, moved-replaced, swap-moves-none, swap-moves-one}
-use Rattle.table.specs.Tray.{Tray, cap, list, invalid, nowhere}
+use Rattle.table.specs.Tray.{Tray, cap, list, valid, invalid, nowhere}
 use Rattle.table.specs.Calls.{Call, push, pushFront, pop, popFront, insert, remove, swapRemove, write, truncate, resize, clear, extend, look, has}
 use Rattle.table.specs.Calls.{Call2, append, splitOff, clone, fromIter, same, equal, Making}
 use Rattle.table.specs.Table.{headBack, headOn, after, after2, begins, makes}
 use Rattle.table.specs.Does.{Outcome, Outcome2, refused, refused2, headAfter, rowOf, rowOf2, refusalsOf, refusalsOf2, refusalsMade, done, done2, does, does2, bare, made}
 use Rattle.table.specs.Ledger.{ifDone}
 use Rattle.table.proofs.Laws.Refusals.{Clear, either, if-refused}
-use Rattle.table.proofs.Laws.Valid.{fit, ring-inside}
+use Rattle.table.proofs.Laws.Valid.{fit, ring-facts, vector-facts, ring-inside}
 use Rattle.table.proofs.Laws.Done.{done-is, same-place}
 
 -- what the refusals that do not apply tell `omega`
@@ -203,6 +203,40 @@ moves-of k call t of =
     (done k t (after call (list k t)) (rowOf k call t))
     (λ r. sym (if-refused r (movesIn k (t .len) call) 0))
     (row-moves k t call of)
+
+fits-most : (k : Kind) (t : Tray) → invalid k t ≡ false → (cap t ≤ 4096) × (t .len ≤ cap t)
+unfolding valid
+fits-most ring t ok = let v = ring-facts (cap t) (t .head) (t .len) ok in (v .small, v .fits)
+fits-most vector t ok = let v = vector-facts (cap t) (t .len) ok in (v .small, v .fits)
+
+at-most-one : (b : Bool) → cond b 0 1 < 4096
+at-most-one true = omega arith
+at-most-one false = omega arith
+
+-- So no call moves as many as 4,096: an insertion needs a free slot, and a removal leaves one out.
+few : (k : Kind) (t : Tray) (call : Call) → Clear (refusalsOf k call t) → movesIn k (t .len) call < 4096
+few k t (push x) e = omega arith
+few k t (pushFront x) e = omega arith
+few k t pop e = omega arith
+few k t popFront e = omega arith
+few ring t (insert i x) e = omega (passed-tests, fits-most ring t (e .0))
+few vector t (insert i x) e = omega (passed-tests, fits-most vector t (e .0))
+few ring t (remove i) e = omega (passed-tests, fits-most ring t (e .0))
+few vector t (remove i) e = omega (passed-tests, fits-most vector t (e .0))
+few k t (swapRemove i) e = at-most-one (eqb i (t .len - 1))
+few k t (write i x) e = omega arith
+few k t (truncate m) e = omega arith
+few k t (resize m x) e = omega arith
+few k t clear e = omega arith
+few k t (extend s) e = omega arith
+few k t (look q) e = omega arith
+
+pub few-moves : (k : Kind) (call : Call) (t : Tray) → has call k ≡ true → does k call t .moves < 4096
+unfolding does
+few-moves k call t of =
+    either (λ (o : Outcome). o .moves < 4096) (refused t (rowOf k call t .given)) (refusalsOf k call t) (done k t (after call (list k t)) (rowOf k call t))
+    (λ r. omega arith)
+    (λ clear. omega (arith, row-moves k t call of clear, few k t call clear))
 
 -- A call on two moves nothing in the first, and a making nothing at all.
 pub moves-of2 : (k k2 : Kind) (call : Call2) (t t2 : Tray) → does2 k k2 call t t2 .moves ≡ 0

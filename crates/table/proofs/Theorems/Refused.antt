@@ -1,16 +1,18 @@
 -- A refused call changes nothing: its answer has value 0 and moves 0, and the states, slots and cursor are those given; a refused making gives
 -- state 0, 0. And a call answers 0 exactly where no refusal of its row holds.
-use Prim.Native.Nat.{ℕ, suc}
+use Prim.Native.Nat.{ℕ, suc, _<_}
+use mathlib.Core.Bool.{Bool}
+use native.Mathlib.Omega.{arith}
 use mathlib.Core.Path.{_≡_, refl, ap, _∙_}
 use mathlib.Core.List.{List}
 use lib.ListN.{length}
 use Rattle.slots.specs.Layout.{Kind}
 use Rattle.table.specs.Tray.{Tray, list, nowhere}
 use Rattle.table.specs.Calls.{Call, Call2, Making}
-use Rattle.table.specs.Table.{after, after2, begins, makes}
+use Rattle.table.specs.Table.{Refusal, after, after2, begins, makes}
 use Rattle.table.specs.Does.{Outcome, refused, done, rowOf, refusalsOf, does, bare, refusalsMade, made}
 use Rattle.table.specs.Does.{Outcome2, refused2, done2, rowOf2, refusalsOf2, does2}
-use Rattle.table.proofs.Laws.Refusals.{Clear, Settled, settled}
+use Rattle.table.proofs.Laws.Refusals.{Clear, Settled, settled, either, below-16, firstNumber}
 
 -- A call on one container. Here and below o is what is seen of a call, as its promise says.
 module _ (k : Kind) (call : Call) (t : Tray) where
@@ -29,6 +31,13 @@ module _ (k : Kind) (call : Call) (t : Tray) where
     pub clear-call : Clear (refusalsOf k call t) → o .number ≡ 0
     clear-call clear = ap (λ o. o .number) (promised ∙ call-settled .otherwise clear)
 
+-- every number that a list of refusals may answer takes 4 bits
+first-below-16 : (rs : List (Bool × Refusal)) → firstNumber rs < 16
+first-below-16 rs = either (λ m. m < 16) (λ m. m) rs 0 below-16 (λ clear. omega arith)
+
+pub few-numbers : (k : Kind) (call : Call) (t : Tray) → does k call t .number < 16
+few-numbers k call t = rw (call-settled k call t .first) (first-below-16 (refusalsOf k call t))
+
 -- A call on two.
 module _ (k k2 : Kind) (call : Call2) (t t2 : Tray) where
   pub two-settled : Settled (λ o. o .number) (refused2 t t2 (rowOf2 k k2 call t t2 .given)) (refusalsOf2 k k2 call t t2)
@@ -45,6 +54,9 @@ module _ (k k2 : Kind) (call : Call2) (t t2 : Tray) where
 
     pub clear-two : Clear (refusalsOf2 k k2 call t t2) → o .number ≡ 0
     clear-two clear = ap (λ o. o .number) (promised ∙ two-settled .otherwise clear)
+
+pub few-numbers2 : (k k2 : Kind) (call : Call2) (t t2 : Tray) → does2 k k2 call t t2 .number < 16
+few-numbers2 k k2 call t t2 = rw (two-settled k k2 call t t2 .first) (first-below-16 (refusalsOf2 k k2 call t t2))
 
 -- A making.
 module _ (k : Kind) (m : Making) (slots : List ℕ) where

@@ -1,0 +1,7 @@
+-- `cursors::filled` meets its promise: T's state is put together, then the answer.
+use borrow.Author.Needs.{needs}
+use Rattle.cursors.proofs.filled.Statement.{statement}
+use Rattle.cursors.proofs.filled.Tie as tie
+
+pub filled-spec : {M : Type 1} → statement M
+filled-spec = tie.close (tie.spec (λ c κs. search needs) (λ c κs. search needs) (λ c. cc))

@@ -32,7 +32,7 @@ pub write-done : (k : Kind) (t : Tray) (text mid out : List ℕ) (w : Written) �
     → mid ≡ put text 0 (firstLine (kindByte k) (cap t) (headIn k (t .head)) (t .len)) → out ≡ put mid 17 (slotLines (t .slots))
     → w ≡ telling t (size (cap t)) out → w ≡ writes k t text
 unfolding writes
-write-done k t text mid out w ok room em eo ew = cc (ok, le-ltb _ _ room, ew, eo, form-put k t text mid room em)
+write-done k t text mid out w ok room em eo ew = cc (ok, le-ltb _ _ room, ew, eo, form-put k t text mid em)
 
 -- the rules of the answers of this crate
 pub ring-refused : (r : Ring) (slots text : List ℕ) (a : ringAnswer.Answer) (m : ℕ) → a ≡ ringSays m 0 r → seenRing a slots text ≡ refusing (rings.tray r slots) m text

@@ -1,4 +1,4 @@
-# Two commands: `make test` is the gate, `make run` runs the program `tray` on its own input. `make compare` and `make bench` hold the calls against Rust's, and are no part of the gate.
+# Two commands: `make test` is the gate, `make run` shows the program `tray` on paper 01's listing. `make compare` and `make bench` hold the calls against Rust's, and are no part of the gate.
 .PHONY: test run bench compare
 
 # First the papers and the layout, then everything is proved from nothing: tools/ci runs rt ci and lets its 'N passed, M failed'
@@ -8,14 +8,16 @@ test:
 	@python3 tools/check-promises
 	@python3 tools/check-papers
 	@rt fmt --check
+	@python3 tools/tray-model <crates/tray/stdin | cmp - crates/tray/stdout
 	@python3 tools/ci
 
 # The program on paper 01's listing: its answers, and beside them what they say. What rt says goes to stderr. Programs are compiled
 # for x86-64; on another processor rt has run it under its emulator, and the log has the same lines.
+# The listing is the first LISTING lines of crates/tray/stdin; the gate's further cases come after it.
+LISTING = 7
 run:
-	@test -d crates/tray || { echo 'make run: the program tray is not written yet; it will stand in crates/tray.' >&2; exit 1; }
 	@rt check tray >&2
-	@if [ "$$(uname -m)" = x86_64 ]; then target/bin/tray <crates/tray/stdin; else cat target/log/tray.stdout; fi | python3 tools/show-run crates/tray/stdin
+	@if [ "$$(uname -m)" = x86_64 ]; then target/bin/tray <crates/tray/stdin; else cat target/log/tray.stdout; fi | head -n $(LISTING) | python3 tools/show-run crates/tray/stdin
 
 # The proved calls against Rust's own containers, with rustc, on x86-64 or 64-bit Arm: prints the ratios and writes docs/PERFORMANCE.md. Archives are
 # x86-64; on Arm the same module is compiled for Arm (bench/native).

@@ -5,8 +5,9 @@ use Prim.Native.Nat.{ℕ, zero, suc, _+_, _-_, _/_, _%_, _≤_, _<_}
 use native.Mathlib.Nat.{not-suc-le-zero, le-of-suc-le-suc}
 use native.Mathlib.Numerals.{add-one}
 use native.Mathlib.Omega.{arith}
-use lib.ListN.{length, set, length-set, length-append}
-use Rattle.digits.specs.Hex.{digit, hex, atStart}
+use lib.ListN.{length, set, take, drop, length-set, length-append}
+use lib.Seq.{take-append-seam}
+use Rattle.digits.specs.Hex.{digit, hex}
 use Rattle.digits.specs.Put.{put}
 
 pub length-put : (text : List ℕ) (at : ℕ) (s : List ℕ) → length (put text at s) ≡ length text
@@ -80,8 +81,12 @@ unfolding put
 put-cons a text at [] = refl
 put-cons a text at (b ∷ s) = rw (add-one at) (rw (← add-one at) (put-cons a (set text at b) (at + 1) s))
 
-pub put-start : (text s : List ℕ) → length s ≤ length text → put text 0 s ≡ atStart s text
+pub put-start : (text s : List ℕ) → length s ≤ length text → put text 0 s ≡ s ++ drop (length s) text
 unfolding put
 put-start text [] h = refl
 put-start [] (b ∷ s) h = absurd (not-suc-le-zero h)
 put-start (a ∷ text) (b ∷ s) h = put-cons b text 0 s ∙ ap (λ (l : List ℕ). b ∷ l) (put-start text s (le-of-suc-le-suc h))
+
+-- and is there to be read
+pub put-read : (text s : List ℕ) → length s ≤ length text → take (length s) (put text 0 s) ≡ s
+put-read text s h = ap (take (length s)) (put-start text s h) ∙ take-append-seam s _

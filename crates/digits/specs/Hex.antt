@@ -1,8 +1,7 @@
--- Numbers as lower-case hexadecimal digits, high digit first, and bytes put into a text.
+-- Numbers as lower-case hexadecimal digits, high digit first.
 use Prim.Native.Nat.{ℕ, zero, suc, _+_, _-_, _*_, _/_, _%_}
 use mathlib.Core.Bool.{Bool, true, cond, _&&_, _||_}
 use mathlib.Core.List.{List, [], _∷_, _++_}
-use lib.ListN.{length, drop}
 use lib.Dec.{ltb, leb}
 
 -- the byte of a digit below 16: 0 to 9, then a to f
@@ -17,10 +16,6 @@ hex (suc n) x = hex n (x / 16) ++ (digit (x % 16) ∷ [])
 -- a line feed
 abbrev pub lf : ℕ
 lf = 10
-
--- the bytes s at the start of a text, and the bytes after them as they were
-abbrev pub atStart : (s text : List ℕ) → List ℕ
-atStart s text = s ++ drop (length s) text
 
 -- 0 to 9 or a to f
 abbrev pub isDigit : (b : ℕ) → Bool

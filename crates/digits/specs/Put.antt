@@ -1,4 +1,4 @@
--- Bytes put into a text one after another, from a place on: what the writers' steps leave.
+-- Bytes put into a text one after another, from a place on. All other bytes are as they were, before them and after.
 use Prim.Native.Nat.{ℕ, _+_}
 use mathlib.Core.List.{List, [], _∷_}
 use lib.ListN.{set}

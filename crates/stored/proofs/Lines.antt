@@ -8,9 +8,9 @@ use lib.ListN.{length, getD, set, drop, length-append, drop-of-length-le}
 use lib.Seq.{drop-cons}
 use Rattle.slots.specs.Layout.{Kind}
 use Rattle.table.specs.Tray.{Tray, cap}
-use Rattle.digits.specs.Hex.{hex, lf, atStart}
+use Rattle.digits.specs.Hex.{hex, lf}
 use Rattle.digits.specs.Put.{put}
-use Rattle.digits.proofs.Puts.{put-after, after-hex, put-ended, put-start, length-hex}
+use Rattle.digits.proofs.Puts.{put-after, after-hex, put-ended, length-hex}
 use Rattle.stored.specs.Form.{headIn, kindByte, stateDigits, firstLine, slotLine, slotLines, form, size}
 
 -- the numbers of the first line, each where the one before it ends
@@ -81,13 +81,10 @@ length-form k t =
     ∙ omega (arith, length-first (kindByte k) (cap t) (headIn k (t .head)) (t .len), length-slots (t .slots))
 
 -- the first line and the slots' lines, put one after the other, are the form at the start of the text
-pub form-put : (k : Kind) (t : Tray) (text mid : List ℕ) → size (cap t) ≤ length text
-    → mid ≡ put text 0 (firstLine (kindByte k) (cap t) (headIn k (t .head)) (t .len)) → put mid 17 (slotLines (t .slots)) ≡ atStart (form k t) text
+pub form-put : (k : Kind) (t : Tray) (text mid : List ℕ)
+    → mid ≡ put text 0 (firstLine (kindByte k) (cap t) (headIn k (t .head)) (t .len)) → put mid 17 (slotLines (t .slots)) ≡ put text 0 (form k t)
 unfolding form
-form-put k t text mid room em =
+form-put k t text mid em =
     let first : List ℕ = firstLine (kindByte k) (cap t) (headIn k (t .head)) (t .len) in
-    let whole : List ℕ = first ++ slotLines (t .slots) in
-    let fits : length whole ≤ length text = omega (arith, length-form k t) in
     ap (λ t′. put t′ 17 (slotLines (t .slots))) em
     ∙ put-after text first (slotLines (t .slots)) 0 17 17 (length-first (kindByte k) (cap t) (headIn k (t .head)) (t .len)) refl
-    ∙ put-start text whole fits

@@ -17,7 +17,7 @@ use Rattle.table.specs.World.{World, called, Ours}
 use Rattle.table.proofs.Laws.Refusals.{either}
 use Rattle.table.proofs.Laws.Keeps.{showing-kept}
 use Rattle.table.proofs.Laws.Named.{Is, ours-called}
-use Rattle.digits.specs.Hex.{atStart}
+use Rattle.digits.specs.Put.{put}
 use Rattle.ring.specs.Seen as rings
 use Rattle.vector.specs.Seen as vectors
 use Rattle.stored.specs.Form.{form, size}
@@ -34,7 +34,7 @@ as-it-was k t text =
     either (λ (w : Written). w .outcome .tray ≡ t)
     (λ number. record { outcome = refused t nowhere number; text = text })
     ((invalid k t, firstInvalid) ∷ (ltb (length text) (size (cap t)), full) ∷ [])
-    (record { outcome = gives (size (cap t)) 0 (t .head) (t .len) (t .slots); text = atStart (form k t) text })
+    (record { outcome = gives (size (cap t)) 0 (t .head) (t .len) (t .slots); text = put text 0 (form k t) })
     (λ r. refl)
     (λ clear. refl)
 

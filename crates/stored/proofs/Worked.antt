@@ -6,6 +6,7 @@ use Rattle.slots.specs.Layout.{ring, vector}
 use Rattle.table.specs.Tray.{Tray, valid, nowhere}
 use Rattle.table.specs.Does.{gives, refused}
 use Rattle.digits.specs.Hex.{hex}
+use Rattle.digits.specs.Put.{put}
 use Rattle.stored.specs.Form.{stateDigits, firstLine, slotLine, slotLines, form}
 use Rattle.stored.specs.Written.{Written, writes}
 
@@ -48,5 +49,5 @@ answers number t text = record { outcome = refused t nowhere number; text = text
 pub short : (writes ring none (blank ++ (17 ∷ 18 ∷ [])) ≡ written 17 none (zeros ++ (zeros ++ (48 ∷ 48 ∷ 10 ∷ 18 ∷ []))))
     × (writes ring none blank ≡ answers 6 none blank)
     × (writes ring (record { head = 1; len = 0; slots = [] }) [] ≡ answers 1 (record { head = 1; len = 0; slots = [] }) [])
-unfolding writes valid form firstLine stateDigits slotLine slotLines hex
+unfolding writes valid form firstLine stateDigits slotLine slotLines hex put
 short = (refl, refl, refl)

@@ -32,7 +32,7 @@ pub write-done : (k : Kind) (t : Tray) (text mid out : List ℕ) (w : Written) (
     → mid ≡ put text 0 (firstLine (kindByte k) (cap t) (headIn k (t .head)) (t .len)) → out ≡ put mid 17 (slotLines (t .slots))
     → value ≡ size (cap t) → w ≡ telling t value out → w ≡ writes k t text
 unfolding writes
-write-done k t text mid out w value ok room em eo ev ew = cc (ok, le-ltb _ _ room, ew, eo, ev, form-put k t text mid room em)
+write-done k t text mid out w value ok room em eo ev ew = cc (ok, le-ltb _ _ room, ew, eo, ev, form-put k t text mid em)
 
 -- the rules of the promises and answers of this crate
 pub ring-stored : (r : Ring) (slots before : List ℕ) (a : ringAnswer.Answer) (text : List ℕ) → seenRing a slots text ≡ writes ring (rings.tray r slots) before

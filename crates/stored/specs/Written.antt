@@ -7,7 +7,7 @@ use Rattle.slots.specs.Layout.{Kind}
 use Rattle.table.specs.Tray.{Tray, cap, invalid, nowhere}
 use Rattle.table.specs.Table.{firstInvalid, full}
 use Rattle.table.specs.Does.{Outcome, refused, gives, firstRefusal}
-use Rattle.digits.specs.Hex.{atStart}
+use Rattle.digits.specs.Put.{put}
 use Rattle.stored.specs.Form.{form, size}
 
 -- what is seen of the call: its outcome, and every byte of the lent text
@@ -21,4 +21,4 @@ writes k t text =
     firstRefusal
     (λ number. record { outcome = refused t nowhere number; text = text })
     ((invalid k t, firstInvalid) ∷ (ltb (length text) (size (cap t)), full) ∷ [])
-    (record { outcome = gives (size (cap t)) 0 (t .head) (t .len) (t .slots); text = atStart (form k t) text })
+    (record { outcome = gives (size (cap t)) 0 (t .head) (t .len) (t .slots); text = put text 0 (form k t) })

@@ -22,7 +22,7 @@ unfolding lineOf
 length-line a = simp (length-append, length-hex)
 
 -- a line as long as the text is all of the text
-all-of : (s text : List ℕ) → length s ≡ length text → put text 0 s ≡ s
+pub all-of : (s text : List ℕ) → length s ≡ length text → put text 0 s ≡ s
 all-of s text e = put-start text s (omega arith) ∙ ap (λ (r : List ℕ). s ++ r) (drop-of-length-le text {i = length s} (omega arith)) ∙ append-nil s
 
 -- five numbers and the end, each put where the one before it ends

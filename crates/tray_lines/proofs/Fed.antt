@@ -1,17 +1,17 @@
 -- Bytes fed one by one into a text: what one byte leaves, one byte more, and the whole run.
 use mathlib.Core.Path.{_≡_, refl, sym, ap, _∙_}
 use mathlib.Core.Bool.{Bool, true, false}
-use mathlib.Core.List.{List, [], _∷_, _++_, append-nil}
+use mathlib.Core.List.{List, [], _∷_, _++_}
 use Prim.Native.Nat.{ℕ, _+_, _*_, _-_, _/_, _≤_, _<_}
 use native.Mathlib.Numerals.{add-one}
 use native.Mathlib.Omega.{arith}
-use borrow.Author.Tests.{eq-eqb, ne-eqb, lt-ltb, le-ltb}
-use lib.Dec.{eqb}
-use lib.ListN.{length, getD, set, take, drop, replicate, length-append, drop-of-length-le}
+use borrow.Author.Tests.{eq-eqb, ne-eqb, lt-ltb, le-ltb, ltb-false}
+use lib.Dec.{eqb, ltb}
+use lib.ListN.{length, getD, set, take, drop, replicate, length-append, length-take, drop-of-length-le}
 use lib.Seq.{drop-cons, take-all, take-length}
-use Rattle.digits.specs.Hex.{lf, atStart}
+use Rattle.digits.specs.Hex.{lf}
 use Rattle.digits.specs.Put.{put}
-use Rattle.digits.proofs.Puts.{put-join, put-start}
+use Rattle.digits.proofs.Puts.{length-put, put-join}
 use Rattle.table.specs.World.{World}
 use Rattle.tray_lines.specs.declared.answers.Told.{Told}
 use Rattle.tray_lines.specs.declared.feeds.State.{State}
@@ -21,7 +21,7 @@ use Rattle.tray_lines.specs.declared.feeds.Finish.{Finish}
 use Rattle.tray_lines.specs.Seen
 use Rattle.tray_lines.specs.Answers.{Tells, tells, toldSeen}
 use Rattle.tray_lines.specs.Feeds.{Midway, Feeds, Kept, fresh, takes, feeds, keeping, ends, midway, Ends, endsInto, endedSeen, Fills, fillsAll, room, fills, fedSeen, Puts, puts, stepSeen}
-use Rattle.tray_lines.proofs.Answered.{length-tells}
+use Rattle.tray_lines.proofs.Answered.{all-of, length-tells}
 
 -- a byte of a line is kept, or there is no room for it
 pub keep-more : (s : State) (b : ℕ) → (b ≡ 10 → ⊥) → s .count < 17
@@ -41,15 +41,14 @@ kept-whole w l n t le e = e ∙ ap (tells w) (sym (take-all n l le))
 -- at the end of the input
 pub none-begun : (s : State) → s .count ≡ 0
     → _≡_ {A = Ends} (record { world = Seen.world (s .trays); text = replicate 23 0; count = 0 }) (endsInto (ends keeping (midway s)))
+unfolding put
 none-begun s e = rw (eq-eqb (s .count) 0 e)
 
 pub some-begun : (s : State) (t : Told) → (s .count ≡ 0 → ⊥) → toldSeen t ≡ tells (Seen.world (s .trays)) (take (s .count) (s .line))
     → _≡_ {A = Ends} (record { world = Seen.world (t .trays); text = t .text; count = 23 }) (endsInto (ends keeping (midway s)))
 some-begun s t ne et =
     let long : length (t .text) ≡ 23 = ap (λ (x : Tells). length (x .text)) et ∙ length-tells _ _ in
-    let zeros : List ℕ = replicate 23 0 in
-    let bare : drop (length (t .text)) zeros ≡ [] = rw long in
-    let filled : atStart (t .text) zeros ≡ t .text = ap (λ (r : List ℕ). t .text ++ r) bare ∙ append-nil (t .text) in
+    let filled : put (replicate 23 0) 0 (t .text) ≡ t .text = all-of (t .text) (replicate 23 0) long in
     rw (ne-eqb (s .count) 0 ne)
     (rw (← et)
     (ap (λ n. record { world = Seen.world (t .trays); text = t .text; count = n }) (sym long)
@@ -87,10 +86,30 @@ step-byte s next b at out ne en =
     let same : out ≡ put out at (takes keeping (midway s) b .out) = rw quiet in
     cc (en, long, same)
 
--- an answer takes no more than 23 bytes
+-- an answer takes no more than 23 bytes, and so many answers no more than that for each byte fed; they fit where there is room for the bytes
 few : (s : Midway Kept) (b : ℕ) (t : Bool) → eqb b lf ≡ t → length (takes keeping s b .out) ≤ 23
 few s b true e = rw e (omega (arith, length-tells (s .world) (take (s .line .count) (s .line .bytes))))
 few s b false e = rw e (omega arith)
+
+feeds-few : (s : Midway Kept) (input : List ℕ) → length (feeds keeping s input .out) ≤ 23 * length input
+unfolding feeds
+feeds-few s [] = omega arith
+feeds-few s (b ∷ input) = simp length-append (omega (arith, few s b _ refl, feeds-few (takes keeping s b .state) input))
+
+room-fits : (input out : List ℕ) (t : Bool) → ltb (length out / 23) (length input) ≡ t → 23 * room input out ≤ length out
+room-fits input out true e = rw e (omega arith)
+room-fits input out false e = rw e (omega (arith, ltb-false (length out / 23) (length input) e))
+
+pub feeds-fit : (s : Midway Kept) (input out : List ℕ) → length (feeds keeping s (take (room input out) input) .out) ≤ length out
+feeds-fit s input out =
+    omega (arith, feeds-few s (take (room input out) input), length-take (room input out) input, room-fits input out _ refl)
+
+pub ends-few : (s : Midway Kept) → length (ends keeping s .text) ≤ 23
+ends-few s = go (eqb (s .line .count) 0) refl
+  where
+    go : (t : Bool) → eqb (s .line .count) 0 ≡ t → length (ends keeping s .text) ≤ 23
+    go true e = rw e (omega arith)
+    go false e = rw e (omega (arith, length-tells (s .world) (take (s .line .count) (s .line .bytes))))
 
 pub step-at : (s : Midway Kept) (b at i : ℕ) (out laid : List ℕ) (p : Step) → stepSeen p laid ≡ puts (takes keeping s b) out at → at ≤ 23 * i → p .at ≤ 23 * (i + 1)
 step-at s b at i out laid p e le = let is : p .at ≡ at + length (takes keeping s b .out) = ap (λ (x : Puts). x .at) e in omega (arith, few s b _ refl)
@@ -119,17 +138,16 @@ feed-turn s input out laid at i p x is lt ex =
 
 -- the whole run
 pub feed-end : (s first : Midway Kept) (input out given : List ℕ) (at i : ℕ) → puts (feeds keeping s (drop i input)) out at ≡ puts (feeds keeping first input) given 0
-    → i ≤ length input → length input ≤ i → at ≤ 23 * i → 23 * length input ≤ length given
+    → i ≤ length input → length input ≤ i
     → _≡_ {A = Fills} (record { state = s; took = i; count = at; out = out }) (fillsAll first input given)
 unfolding feeds put
-feed-end s first input out given at i is low high few room =
+feed-end s first input out given at i is low high =
     let none : drop i input ≡ [] = drop-of-length-le input {i = i} high in
     let end : _≡_ {A = Puts} (record { state = s; at = at + 0; out = out }) (puts (feeds keeping first input) given 0) = sym (ap (λ l. puts (feeds keeping s l) out at) none) ∙ is in
     let f : Feeds Kept = feeds keeping first input in
     let es : s ≡ f .state = ap (λ (p : Puts). p .state) end in
     let ea : at ≡ length (f .out) = omega (arith, ap (λ (p : Puts). p .at) end) in
-    let fits : length (f .out) ≤ length given = omega arith in
-    let eo : out ≡ atStart (f .out) given = ap (λ (p : Puts). p .out) end ∙ put-start given (f .out) fits in
+    let eo : out ≡ put given 0 (f .out) = ap (λ (p : Puts). p .out) end in
     let ei : i ≡ length input = omega arith in
     cc (es, ea, eo, ei)
 
@@ -155,14 +173,12 @@ took-all s input out laid f fits e =
 pub counted : (s : Midway Kept) (input out laid : List ℕ) (f : Fed) → fedSeen f laid ≡ fills s input out → f .count ≤ length laid
 unfolding fills
 counted s input out laid f e =
-    let put : List ℕ = feeds keeping s (take (room input out) input) .out in
-    let n : f .count ≡ length put = ap (λ (x : Fills). x .count) e in
-    let long : length laid ≡ length (put ++ drop (length put) out) = ap (λ (x : Fills). length (x .out)) e in
-    omega (arith, n, long, length-append put (drop (length put) out))
+    let n : f .count ≡ length (feeds keeping s (take (room input out) input) .out) = ap (λ (x : Fills). x .count) e in
+    let long : length laid ≡ length out = ap (λ (x : Fills). length (x .out)) e ∙ length-put out 0 _ in
+    omega (arith, n, long, feeds-fit s input out)
 
-pub end-counted : (t : Tells) (f : Finish) → endedSeen f ≡ endsInto t → f .count ≤ length (f .text)
-end-counted t f e =
-    let zeros : List ℕ = replicate 23 0 in
-    let n : f .count ≡ length (t .text) = ap (λ (x : Ends). x .count) e in
-    let long : length (f .text) ≡ length (t .text ++ drop (length (t .text)) zeros) = ap (λ (x : Ends). length (x .text)) e in
-    omega (arith, n, long, length-append (t .text) (drop (length (t .text)) zeros))
+pub end-counted : (s : Midway Kept) (f : Finish) → endedSeen f ≡ endsInto (ends keeping s) → f .count ≤ length (f .text)
+end-counted s f e =
+    let n : f .count ≡ length (ends keeping s .text) = ap (λ (x : Ends). x .count) e in
+    let long : length (f .text) ≡ 23 = ap (λ (x : Ends). length (x .text)) e ∙ length-put (replicate 23 0) 0 _ in
+    omega (arith, n, long, ends-few s)

@@ -3,12 +3,13 @@
 use mathlib.Core.Path.{_≡_, refl, sym, ap, _∙_}
 use mathlib.Core.List.{List, [], _∷_, _++_}
 use Prim.Native.Nat.{ℕ, _+_}
-use lib.ListN.{length, take, drop, take-append-drop}
+use lib.ListN.{length, take, drop, replicate, take-append-drop}
 use lib.Seq.{take-append-seam}
 use contract.Lifetimes.{Lfts}
 use denote.Ref.{now}
 use denote.Triple.Clauses.{AtExit}
 use borrow.Fn.World.{ArgsD, ResD}
+use Rattle.digits.proofs.Puts.{put-read}
 use Rattle.table.specs.Ledger.{modelled, entered, handed, dropped}
 use Rattle.table.specs.World.{World, lines, held, standingAll}
 use Rattle.tray_lines.specs.declared.acts.Trays.{Trays}
@@ -18,6 +19,7 @@ use Rattle.tray_lines.specs.Acts.{begun}
 use Rattle.tray_lines.specs.Answers.{Tells, tells}
 use Rattle.tray_lines.specs.Feeds.{Midway, Feeds, Kept, fresh, feeds, keeping, ends, midway, Ends, endsInto, endedSeen, Fills, room, fills}
 use Rattle.tray_lines.specs.Runs.{linesOf, finished, answered, after, happened}
+use Rattle.tray_lines.proofs.Fed.{feeds-fit, ends-few}
 use Rattle.tray_lines.proofs.Blocks.{then, feeds-join, run-so-far, run-answers}
 use Rattle.tray_lines.proofs.Balance.{lines-model, lines-balance}
 use Rattle.tray_lines.proofs.acts.start as start·fn
@@ -96,7 +98,7 @@ fed-is (block {s} {input} {out} κs a r e before same learnt) =
     learnt ∙ ap (λ (u : State). fills (midway u) given text) same
     in
     let took : take (r .took) given ≡ part = ap (λ (x : Fills). take (x .took) given) is ∙ taken (room given text) given in
-    let put : take (r .count) (now (e .1 .1 .0)) ≡ f .out = ap (λ (x : Fills). take (x .count) (x .out)) is ∙ take-append-seam (f .out) _ in
+    let put : take (r .count) (now (e .1 .1 .0)) ≡ f .out = ap (λ (x : Fills). take (x .count) (x .out)) is ∙ put-read text (f .out) (feeds-fit (midway s) given text) in
     let state : midway (r .state) ≡ f .state = ap (λ (x : Fills). x .state) is in
     let old : fedTo s input out = fed-is before in
     ap (λ (l : List ℕ). feeds keeping (fresh keeping begun) (input ++ l)) took
@@ -129,8 +131,10 @@ module _ {s : State} {input out : List ℕ} (fed : Fed s input out)
 
   pub tray-answers : out ++ take (r .count) (r .text) ≡ answered begun (linesOf [] input)
   tray-answers =
-      let end : Tells = ends keeping (feeds keeping (fresh keeping begun) input .state) in
-      let said : take (r .count) (r .text) ≡ end .text = ap (λ (x : Ends). take (x .count) (x .text)) finish ∙ take-append-seam (end .text) _ in
+      let mid : Midway Kept = feeds keeping (fresh keeping begun) input .state in
+      let end : Tells = ends keeping mid in
+      let said : take (r .count) (r .text) ≡ end .text =
+      ap (λ (x : Ends). take (x .count) (x .text)) finish ∙ put-read (replicate 23 0) (end .text) (ends-few mid) in
       let fed-out : feeds keeping (fresh keeping begun) input .out ≡ out = ap (λ (f : Feeds Kept). f .out) (fed-is fed) in
       cc (said, fed-out, run-answers begun input .0)
 

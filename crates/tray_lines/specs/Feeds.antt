@@ -5,7 +5,7 @@ use mathlib.Core.Bool.{Bool, true, false, cond}
 use mathlib.Core.List.{List, [], _∷_, _++_}
 use lib.ListN.{length, take, set, replicate}
 use lib.Dec.{eqb, ltb}
-use Rattle.digits.specs.Hex.{lf, atStart}
+use Rattle.digits.specs.Hex.{lf}
 use Rattle.digits.specs.Put.{put}
 use Rattle.table.specs.World.{World}
 use Rattle.tray_lines.specs.Answers.{Tells, tells}
@@ -92,7 +92,7 @@ pub record Ends : Type 0 where
   pub count : ℕ
 
 abbrev pub endsInto : Tells → Ends
-endsInto t = record { world = t .world; text = atStart (t .text) (replicate 23 0); count = length (t .text) }
+endsInto t = record { world = t .world; text = put (replicate 23 0) 0 (t .text); count = length (t .text) }
 
 abbrev pub endedSeen : Finish → Ends
 endedSeen e = record { world = Seen.world (e .trays); text = e .text; count = e .count }
@@ -109,7 +109,7 @@ fillsAll s input out = record {
   state = feeds keeping s input .state;
   took = length input;
   count = length (feeds keeping s input .out);
-  out = atStart (feeds keeping s input .out) out;
+  out = put out 0 (feeds keeping s input .out);
 }
 
 -- as many bytes are taken as the text has room for, 23 for each

@@ -1,8 +1,8 @@
 // Reads calls from standard input and writes their answers: the reading and the writing only.
-use tray_lines::feeds::Fed;
-use tray_lines::feeds::State;
 use libc::STDIN_FILENO;
 use libc::STDOUT_FILENO;
+use tray_lines::feeds::Fed;
+use tray_lines::feeds::State;
 ghost use mathlib.Core.Path.{_≡_};
 ghost use Prim.Native.Nat.{_*_, _≤_};
 ghost use lib.ListN.{length};

@@ -2,7 +2,7 @@
 use crate::place::{Line, Page};
 use crate::work;
 
-// An answer: the value in the low 32 bits, the moves in the next 24, the number in the high 8.
+// An answer: the value in the low 32 bits, 16 bits that are 0, the moves in the next 12, the number in the high 4.
 type Word = u64;
 type State = [usize; 2]; // a ring's head and length
 
@@ -35,12 +35,12 @@ static mut LEN: Line<usize> = Line(0);
 
 #[inline(always)]
 fn done(w: Word) -> u64 {
-    w >> 56
+    w >> 60
 }
 
 #[inline(always)]
 fn entry(w: Word) -> Option<u32> {
-    if w >> 56 == 0 { Some(w as u32) } else { None }
+    if w >> 60 == 0 { Some(w as u32) } else { None }
 }
 
 // A ring on the first C slots of the run WHICH.

@@ -4,7 +4,7 @@ use mathlib.Core.List.{List}
 use Prim.Native.Nat.{ℕ}
 use Rattle.table.specs.Tray.{Tray, nowhere}
 use Rattle.table.specs.Does.{refused, refused2}
-use Rattle.table.proofs.Laws.Stops.{stops}
+use Rattle.table.proofs.Laws.Stops.{stops, is-astray, not-astray, in-order, in-reach}
 use Rattle.table.proofs.Laws.Refusals
 use Rattle.table.proofs.Laws.Looks.{shows}
 use Rattle.table.proofs.Laws.Done2.{fills}
@@ -30,6 +30,11 @@ answered u v t s2 a m e = ap (λ a. seenInto a t s2) e
 pub told : (t : Tray) (s2 : List ℕ) (a : Taken) (n back : ℕ) → a ≡ filling back back n → seenInto a t s2 ≡ fills t n s2 back
 told t s2 a n back e = ap (λ a. seenInto a t s2) e
 
-pub ruleset refusals = (stopped, answered, stops, Refusals.refusals)
+pub ruleset refusals = (stopped, stops, Refusals.refusals)
 
-pub ruleset shown = (started, told, rings.home, vectors.home, stops, Refusals.tests)
+pub ruleset shown = (started, rings.home, vectors.home, stops, Refusals.tests)
+
+-- of from_iter, which makes each test by itself: fewer rules, since its proof holds more facts
+pub ruleset into-refusals = (answered, is-astray, not-astray, Refusals.refusals)
+
+pub ruleset into-shown = (told, rings.home, vectors.home, in-order, in-reach, Refusals.tests)

@@ -3,7 +3,7 @@ use borrow.Author.Needs.{needs}
 use Rattle.table.specs.Does.{does2}
 use Rattle.table.proofs.Laws.Valid.{state}
 use Rattle.table.proofs.Laws.Done2.{vector-from-iter-done}
-use Rattle.cursors.proofs.Told.{refusals, shown}
+use Rattle.cursors.proofs.Told.{into-refusals, into-shown}
 use Rattle.cursors.proofs.Cursor.vector_from_iter.Statement.{statement}
 use Rattle.cursors.proofs.Cursor.vector_from_iter.Tie as tie
 
@@ -14,18 +14,18 @@ vector-from-iter-spec =
     (tie.spec
     (λ c κs. search needs)
     (λ c κs. search needs)
-    (λ c. search refusals depth 9)
+    (λ c. search into-refusals depth 9)
     (λ c κs. search needs)
     (λ c κs. search needs)
-    (λ c. search refusals depth 9)
+    (λ c. search into-refusals depth 9)
     (λ c κs. search needs)
     (λ c κs. search needs)
-    (λ c. search refusals depth 9)
+    (λ c. search into-refusals depth 9)
     (λ c κs. search needs)
-    (λ c. search refusals depth 9)
+    (λ c. search into-refusals depth 9)
     (λ c. omega state)
     (λ c κs. search needs)
-    (λ c. search refusals depth 9)
+    (λ c. search into-refusals depth 9)
     (λ c. omega state)
     (λ c. omega state)
     (λ c. omega state)
@@ -34,4 +34,4 @@ vector-from-iter-spec =
     (λ c κs. omega state)
     (λ c κs. search needs)
     (λ c. search needs)
-    (λ c. search (vector-from-iter-done, shown) depth 9))
+    (λ c. search (vector-from-iter-done, into-shown) depth 9))

@@ -8,7 +8,7 @@ use Rattle.table.specs.Tray.{Tray}
 use Rattle.table.specs.Calls as table
 use Rattle.table.specs.Calls.{push, pushFront, pop, popFront, insert, remove, swapRemove, write, truncate, resize, clear, look, read}
 use Rattle.table.specs.Calls.{append, splitOff, has, has2, new}
-use Rattle.table.specs.Does.{Outcome, Outcome2, does, does2, made, headIn}
+use Rattle.table.specs.Does.{Outcome, Outcome2, does, does2, made}
 use Rattle.table.specs.World.{Container, World, at, Event, arrived, called, calledTwo, make, on, onTwo, step, run}
 use Rattle.tray_lines.specs.declared.lines.RingOp.{RingOp}
 use Rattle.tray_lines.specs.declared.lines.VectorOp.{VectorOp}
@@ -106,7 +106,7 @@ event w c = eventAt w (named c) (other c) (actOf c)
 
 -- number, value and moves, with the head and the length of the container afterwards; a vector's head is 0
 abbrev pub reports : (number value moves : ℕ) → Container → Answer
-reports number value moves b = record { number = number; value = value; moves = moves; head = headIn (b .kind) (b .tray .head); len = b .tray .len }
+reports number value moves b = record { number = number; value = value; moves = moves; head = b .tray .head; len = b .tray .len }
 
 abbrev pub reported : Event → Container → Answer
 reported (arrived k a slots o) b = reports (o .number) (o .value) (o .moves) b

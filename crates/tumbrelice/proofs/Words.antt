@@ -73,12 +73,14 @@ heard2-is m x k word t t2 o w e = cc
 pub ring-hears : (call : Call) (st st′ s s′ : List ℕ) (r : Ring) (a : ringAnswer.Answer) (word : ℕ) → r ≡ ringIn st → rings.Meets call r s a s′
     → st′ ≡ ringOut (a .ring) → Worded (a .number) (a .value) (a .moves) word → Hears ring call (ringOf st s) word (ringOf st′ s′)
 ring-hears call st st′ s s′ r a word er e es w =
-    rw (← er, es) (record { row = heard-at _ _ _ word (rings.tray (a .ring) s′) nowhere _ w (e .row); free = w .free })
+    let e′ : rings.Meets call (ringIn st) s a s′ = rw er at e in
+    rw es (record { row = heard-at _ _ _ word (rings.tray (a .ring) s′) nowhere _ w (e′ .row); free = w .free })
 
 pub vector-hears : (call : Call) (n n′ : ℕ) (s s′ : List ℕ) (v : Vector) (a : vectorAnswer.Answer) (word : ℕ) → v ≡ vectorIn n → vectors.Meets call v s a s′
     → n′ ≡ vectorOut (a .vector) → Worded (a .number) (a .value) (a .moves) word → Hears vector call (vectorOf n s) word (vectorOf n′ s′)
 vector-hears call n n′ s s′ v a word ev e en w =
-    rw (← ev, en) (record { row = heard-at _ _ _ word (vectors.tray (a .vector) s′) nowhere _ w (e .row); free = w .free })
+    let e′ : vectors.Meets call (vectorIn n) s a s′ = rw ev at e in
+    rw en (record { row = heard-at _ _ _ word (vectors.tray (a .vector) s′) nowhere _ w (e′ .row); free = w .free })
 
 -- a look leaves the container as it is, so a caller keeps the state that it gave
 look-still : (k : Kind) (q : Look) (t : Tray) → Homed k t → does k (look q) t .tray ≡ t
@@ -100,18 +102,23 @@ looked m x k word t′ t kind q home w e = record {
 
 pub ring-looked : (q : Look) (st s : List ℕ) (r : Ring) (a : ringAnswer.Answer) (word : ℕ) → r ≡ ringIn st → rings.Meets (look q) r s a s
     → Worded (a .number) (a .value) (a .moves) word → Hears ring (look q) (ringOf st s) word (ringOf st s)
-ring-looked q st s r a word er e w = rw (← er) (looked _ _ _ word _ (rings.tray r s) ring q refl w (e .row))
+ring-looked q st s r a word er e w =
+    let e′ : rings.Meets (look q) (ringIn st) s a s = rw er at e in
+    looked _ _ _ word _ (ringOf st s) ring q refl w (e′ .row)
 
 pub vector-looked : (q : Look) (n : ℕ) (s : List ℕ) (v : Vector) (a : vectorAnswer.Answer) (word : ℕ) → v ≡ vectorIn n → vectors.Meets (look q) v s a s
     → Worded (a .number) (a .value) (a .moves) word → Hears vector (look q) (vectorOf n s) word (vectorOf n s)
-vector-looked q n s v a word ev e w = rw (← ev) (looked _ _ _ word _ (vectors.tray v s) vector q refl w (e .row))
+vector-looked q n s v a word ev e w =
+    let e′ : vectors.Meets (look q) (vectorIn n) s a s = rw ev at e in
+    looked _ _ _ word _ (vectorOf n s) vector q refl w (e′ .row)
 
 -- on two rings
 pub rings-hear : (call : Call2) (st ot st′ ot′ s z s′ z′ : List ℕ) (r t : Ring) (a : Both) (word : ℕ) → r ≡ ringIn st → t ≡ ringIn ot
     → pairs.Meets call r s t z a s′ z′ → st′ ≡ ringOut (a .first) → ot′ ≡ ringOut (a .second) → Worded (a .number) (a .value) (a .moves) word
     → Hears2 ring ring call (ringOf st s) (ringOf ot z) word (ringOf st′ s′) (ringOf ot′ z′)
 rings-hear call st ot st′ ot′ s z s′ z′ r t a word er et e es eo w =
-    rw (← er, ← et, es, eo) (record { row = heard2-is _ _ _ word (rings.tray (a .first) s′) (rings.tray (a .second) z′) _ w (e .row); free = w .free })
+    let e′ : pairs.Meets call (ringIn st) s (ringIn ot) z a s′ z′ = rw (er, et) at e in
+    rw (es, eo) (record { row = heard2-is _ _ _ word (rings.tray (a .first) s′) (rings.tray (a .second) z′) _ w (e′ .row); free = w .free })
 
 -- clone leaves the container that it copies
 clone-still : (k k2 : Kind) (t t2 : Tray) → Homed k t → does2 k k2 clone t t2 .first ≡ t
@@ -126,8 +133,11 @@ pub rings-cloned : (st ot ot′ s z z′ : List ℕ) (r t : Ring) (a : Both) (wo
     → pairs.Meets clone r s t z a s z′ → ot′ ≡ ringOut (a .second) → Worded (a .number) (a .value) (a .moves) word
     → Hears2 ring ring clone (ringOf st s) (ringOf ot z) word (ringOf st s) (ringOf ot′ z′)
 rings-cloned st ot ot′ s z z′ r t a word er et e eo w =
-    let kept : rings.tray (a .first) s ≡ rings.tray r s = ap (λ (o : Outcome2). o .first) (e .row) ∙ clone-still ring ring (rings.tray r s) (rings.tray t z) refl in
-    rw (← er, ← et, eo) (record {
-      row = heard2-is _ _ _ word (rings.tray r s) (rings.tray (a .second) z′) _ w (ap (λ t. record { number = a .number; value = a .value; moves = a .moves; first = t; second = rings.tray (a .second) z′; cursor = nowhere }) (sym kept) ∙ e .row);
+    let e′ : pairs.Meets clone (ringIn st) s (ringIn ot) z a s z′ = rw (er, et) at e in
+    let kept : rings.tray (a .first) s ≡ ringOf st s = ap (λ (o : Outcome2). o .first) (e′ .row) ∙ clone-still ring ring (ringOf st s) (ringOf ot z) refl in
+    rw eo (record {
+      row =
+          heard2-is _ _ _ word (ringOf st s) (rings.tray (a .second) z′) _ w
+          (ap (λ t. record { number = a .number; value = a .value; moves = a .moves; first = t; second = rings.tray (a .second) z′; cursor = nowhere }) (sym kept) ∙ e′ .row);
       free = w .free;
     })

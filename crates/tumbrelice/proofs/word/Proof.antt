@@ -12,4 +12,5 @@ word-spec =
     (λ c. search needs)
     (λ c. search needs)
     (λ c. search needs)
+    (λ c. search needs)
     (λ c. search (worded, needs)))

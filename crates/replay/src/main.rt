@@ -1,284 +1,153 @@
-// Reads lines from standard input and prints what each leaves: the reading and the writing only. docs/REPLAY.md has the lines.
+// The program `replay`: reads lines, answers each, and prints what it leaves. docs/REPLAY.md has the lines. Whether the answers are right is for the
+// comparison with Rust's own containers; proved is that the program ends, stays within bounds, and that a line that can't be taken changes nothing.
+mod lines; // lines.rt: what a line asks, or why it can't be taken
+mod desks; // desks.rt: what stands on the desk, and what is placed there
+mod calls; // calls.rt: the calls by their numbers
+mod answers; // answers.rt: what an answer leaves on the desk
+mod shows; // shows.rt: what a call shows beside its answer
+mod prints; // prints.rt: what is printed of a call
+
+use desks::Desk;
 use libc::STDIN_FILENO;
 use libc::STDOUT_FILENO;
-use replay_lines::desks::Desk;
-use replay_lines::lines::Asked;
-use replay_lines::lines::Verdict;
-use replay_lines::places::Placed;
-use replay_lines::tells::Told;
-ghost use Prim.Native.Nat.{_+_, _*_, _≤_};
-ghost use lib.ListN.{length};
-ghost use Rattle.replay_lines.specs.Tells.{Enough};
+use lines::Asked;
+use lines::Verdict;
+ghost use mathlib.Core.Path.{_≡_};
+ghost use mathlib.Core.Bool.{false};
+ghost use Rattle.replay.specs.Lines.{takes};
 
-// Between two bytes: what is placed, the first 35 bytes of the line begun, which tell that it is too long, and whether the output takes more.
-struct Between {
-    placed: Placed,
-    line: [u8; 35],
+// Between two bytes: the desk, how many bytes of a line are kept, and whether there is more to read.
+struct Begun {
+    desk: Desk,
     count: usize,
-    open: bool,
-}
-
-// After a turn: whether there is more to read.
-struct Went {
     more: bool,
-    now: Between,
 }
 
-// After a line.
-struct After {
-    placed: Placed,
-    open: bool,
-}
-
-fn least(a: usize, most: usize) -> usize
-    ensures { λ r. ⌜ r ≤ most ⌝ }
-{
-    if a < most { a } else { most }
-}
-
-fn put(p: Placed, desk: Desk, out: &[u8], count: usize) -> After {
-    let n = least(count, out.len());
-    let open = io::write_all(STDOUT_FILENO, &out[0..n]);
-    After {
-        placed: Placed {
-            cap: p.cap,
-            cap2: p.cap2,
-            desk,
-        },
-        open,
-    }
-}
-
-// A call that has no text, by what it lends.
-fn told(q: Asked, d: Desk, slots: &mut [u32], theirs: &mut [u32], out: &mut [u8]) -> Told
-    requires { ⌜ 131 + 18 * length (now slots) + 9 * length (now theirs) ≤ length (now out) ⌝ }
-{
-    let op = q.op;
-    if op < 56 {
-        return replay_lines::tells::tell(q, d, slots, theirs, out);
-    }
-    if op < 60 {
-        return replay_lines::parts::tell_part(q, d, slots, theirs, out);
-    }
-    if op < 62 {
-        return replay_lines::parts::tell_mut_part(q, d, slots, theirs, out);
-    }
-    replay_lines::tells::tell(q, d, slots, theirs, out)
-}
-
-// A call on as many of the lent slots as the containers have.
-fn call(
-    q: Asked,
-    p: Placed,
-    first: &mut [u32],
-    second: &mut [u32],
-    text: &mut [u8],
-    out: &mut [u8],
-) -> After
-    requires { ⌜ Enough (now first) (now second) (now text) (now out) ⌝ }
-{
-    let op = q.op;
-    let d = p.desk;
-    let cap = least(p.cap, 4200);
-    let cap2 = least(p.cap2, 4200);
+// A call on as many of the lent slots as the containers have. What it shows stands after the slots, and goes there first: the call may change them.
+fn call(q: Asked, desk: Desk, first: &mut [u32], second: &mut [u32], out: &mut [u8]) -> Desk {
+    let cap = desks::count(desk.cap, first.len());
+    let cap2 = desks::count(desk.cap2, second.len());
     let slots = &mut first[0..cap];
     let theirs = &mut second[0..cap2];
-    if op < 128 {
-        let t = told(q, d, slots, theirs, out);
-        let desk = t.desk;
-        return put(p, desk, out, t.count);
-    }
-    let n = least(q.a, 40000);
-    let part = &mut text[0..n];
-    let t = replay_lines::texts::tell_text(q, d, slots, theirs, part, out);
-    let desk = t.desk;
-    let after = put(p, desk, out, t.count);
-    io::write_all(STDOUT_FILENO, part);
-    io::write_all(STDOUT_FILENO, b"\n");
-    after
+    let at = desks::least(131 + 9 * cap + 9 * cap2, out.len());
+    let did = calls::call(q, desk, slots, theirs, &mut out[at..]);
+    let left = did.desk;
+    let shown = did.shown;
+    prints::print(did, slots, theirs, out);
+    write(out, at, shown);
+    left
 }
 
-// What a line leaves, and what is printed of it.
-fn answer(
-    line: &[u8],
-    p: Placed,
-    first: &mut [u32],
-    second: &mut [u32],
-    text: &mut [u8],
-    out: &mut [u8],
-) -> After
-    requires { ⌜ Enough (now first) (now second) (now text) (now out) ⌝ }
+// The answer line and the slots, and what the call shows.
+fn write(out: &[u8], at: usize, shown: usize) {
+    let start = desks::least(at, out.len());
+    let end = start + desks::least(shown, out.len() - start);
+    io::write_all(STDOUT_FILENO, &out[0..end]);
+}
+
+// What a line leaves on the desk, once what it prints is written.
+fn answer(line: &[u8], desk: Desk, first: &mut [u32], second: &mut [u32], out: &mut [u8]) -> Desk
+    ensures { λ r. ⌜ (takes (now (line .entry)) (desk .cap) (desk .cap2) ≡ false → (r ≡ desk) × (now (first .exit) ≡ now (first .entry)) × (now (second .exit) ≡ now (second .entry))) ⌝ }
 {
-    match replay_lines::lines::judge(line, p.cap, p.cap2) {
-        Verdict::Taken(q) => {
-            let op = q.op;
-            if op < 16 {
-                let placed = replay_lines::places::place(q, p, first, second);
-                return After { placed, open: true };
-            }
-            call(q, p, first, second, text, out)
-        }
-        Verdict::Damaged => After {
-            placed: p,
-            open: io::write_all(STDOUT_FILENO, b"! not 34 lower-case hexadecimal digits\n"),
-        },
-        Verdict::Unknown => After {
-            placed: p,
-            open: io::write_all(STDOUT_FILENO, b"! no such operation\n"),
-        },
-        Verdict::Beyond => After {
-            placed: p,
-            open: io::write_all(STDOUT_FILENO, b"! out of reach\n"),
-        },
+    match lines::judge(line, desk.cap, desk.cap2) {
+        Verdict::Placing(q) => desks::place(q, desk, first, second),
+        Verdict::Call(q) => call(q, desk, first, second, out),
+        Verdict::Damaged => untaken(desk, b"! not 34 lower-case hexadecimal digits\n"),
+        Verdict::Unknown => untaken(desk, b"! no such operation\n"),
+        Verdict::Beyond => untaken(desk, b"! out of reach\n"),
     }
 }
 
-// The bytes kept of a line.
-fn kept(
-    line: [u8; 35],
-    count: usize,
-    p: Placed,
-    first: &mut [u32],
-    second: &mut [u32],
-    text: &mut [u8],
-    out: &mut [u8],
-) -> After
-    requires { ⌜ Enough (now first) (now second) (now text) (now out) ⌝ }
+fn untaken(desk: Desk, why: &[u8]) -> Desk
+    ensures { λ r. ⌜ r ≡ desk ⌝ }
 {
-    let n = least(count, 35);
-    answer(&line[0..n], p, first, second, text, out)
+    io::write_all(STDOUT_FILENO, why);
+    desk
 }
 
-fn keep(s: Between, b: u8) -> Between {
+// As many bytes are kept as tell that a line is too long.
+fn kept(mut s: Begun, b: u8, line: &mut [u8]) -> Begun {
     let n = s.count;
-    if n < 35 {
-        let placed = s.placed;
-        let mut line = s.line;
+    if n < line.len() {
         line[n] = b;
-        return Between {
-            placed,
-            line,
-            count: n + 1,
-            open: s.open,
-        };
+        s.count = n + 1;
     }
     s
 }
 
-fn one(
-    s: Between,
+// A byte: LF ends a line, and the bytes kept of it are answered.
+fn byte(
+    s: Begun,
     b: u8,
+    line: &mut [u8],
     first: &mut [u32],
     second: &mut [u32],
-    text: &mut [u8],
     out: &mut [u8],
-) -> Between
-    requires { ⌜ Enough (now first) (now second) (now text) (now out) ⌝ }
-{
-    if b == 10 {
-        let p = s.placed;
-        let line = s.line;
-        let a = kept(line, s.count, p, first, second, text, out);
-        let placed = a.placed;
-        return Between {
-            placed,
-            line: [0u8; 35],
-            count: 0,
-            open: s.open & a.open,
-        };
+) -> Begun {
+    if b != b'\n' {
+        return kept(s, b, line);
     }
-    keep(s, b)
+    let desk = s.desk;
+    let n = desks::least(s.count, line.len());
+    let left = answer(&line[0..n], desk, first, second, out);
+    Begun {
+        desk: left,
+        count: 0,
+        more: s.more,
+    }
 }
 
 // A run of bytes, one after another.
 fn feed(
-    begun: Between,
+    begun: Begun,
     part: &[u8],
+    line: &mut [u8],
     first: &mut [u32],
     second: &mut [u32],
-    text: &mut [u8],
     out: &mut [u8],
-) -> Between
-    requires { ⌜ Enough (now first) (now second) (now text) (now out) ⌝ }
-{
+) -> Begun {
     let mut s = begun;
     let mut i = 0;
     while i < part.len() {
-        s = one(s, part[i], first, second, text, out);
+        s = byte(s, part[i], line, first, second, out);
         i += 1;
     }
     s
 }
 
 // One read, and what it is answered.
-fn turn(s: Between, first: &mut [u32], second: &mut [u32], text: &mut [u8], out: &mut [u8]) -> Went
-    requires { ⌜ Enough (now first) (now second) (now text) (now out) ⌝ }
-{
+fn turn(s: Begun, line: &mut [u8], first: &mut [u32], second: &mut [u32], out: &mut [u8]) -> Begun {
     let mut buf = io::large_buffer();
     let got = libc::read(STDIN_FILENO, &mut buf);
-    if got <= 0 {
-        return Went {
-            more: false,
-            now: s,
-        };
-    }
     let n = io::count(got, &buf);
-    let now = feed(s, &buf[..n], first, second, text, out);
-    Went { more: true, now }
-}
-
-// A proved loop has to end: the turns are counted down from a number that no run uses up.
-fn run(
-    begun: Between,
-    first: &mut [u32],
-    second: &mut [u32],
-    text: &mut [u8],
-    out: &mut [u8],
-) -> Between
-    requires { ⌜ Enough (now first) (now second) (now text) (now out) ⌝ }
-{
-    let mut now = begun;
-    let mut turns = u64::MAX;
-    let mut go = true;
-    while 0 < turns && go {
-        let w = turn(now, first, second, text, out);
-        now = w.now;
-        go = w.more & now.open;
-        turns -= 1;
-    }
+    let mut now = feed(s, &buf[..n], line, first, second, out);
+    now.more = 0 < n;
     now
 }
 
-// The last line counts where it has no LF and isn't empty. Where the output is closed nothing more is written.
+// A proved loop has to end: the turns are counted down from a number that no run uses up. The last line counts where it has no LF and isn't empty.
+fn run(line: &mut [u8], first: &mut [u32], second: &mut [u32], out: &mut [u8]) {
+    let mut s = Begun {
+        desk: desks::cleared(),
+        count: 0,
+        more: true,
+    };
+    let mut turns = u64::MAX;
+    let mut more = true;
+    while 0 < turns && more {
+        s = turn(s, line, first, second, out);
+        more = s.more;
+        turns -= 1;
+    }
+    if 0 < s.count {
+        byte(s, b'\n', line, first, second, out);
+    }
+}
+
 fn main() {
+    let mut line = [0u8; 35]; // one byte above 34 tells that a line is too long
     let mut first = [0u32; 4200];
     let mut second = [0u32; 4200];
-    let mut text = [0u8; 40000];
-    let mut out = [0u8; 113531]; // the answer line, 9 bytes for each of 4,200 slots twice, and for each entry of a part
-    let begun = Between {
-        placed: Placed {
-            cap: 0,
-            cap2: 0,
-            desk: Desk {
-                head: 0,
-                len: 0,
-                head2: 0,
-                len2: 0,
-                front: 0,
-                back: 0,
-            },
-        },
-        line: [0u8; 35],
-        count: 0,
-        open: true,
-    };
-    let s = run(begun, &mut first, &mut second, &mut text, &mut out);
-    if s.open {
-        let p = s.placed;
-        let line = s.line;
-        let n = s.count;
-        if 0 < n {
-            kept(line, n, p, &mut first, &mut second, &mut text, &mut out);
-        }
-    }
+    let mut out = [0u8; 115732]; // the answer line, 9 bytes for each of 4,200 slots twice, a text of 40,000 and its LF
+    run(&mut line, &mut first, &mut second, &mut out);
 }

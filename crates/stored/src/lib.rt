@@ -39,7 +39,7 @@ fn put_line(text: &mut [u8], at: usize, x: u32)
 }
 
 // A line for each slot, from a place on.
-pub fn put_slots(text: &mut [u8], from: usize, slots: &[u32])
+fn put_slots(text: &mut [u8], from: usize, slots: &[u32])
     requires { ⌜ from + 9 * length (now slots) ≤ length (now text) ⌝ }
     ensures { λ _. ⌜ now (text .exit) ≡ put (now (text .entry)) from (slotLines (now (slots .entry))) ⌝ }
 {

@@ -2,17 +2,15 @@
 use mathlib.Core.Path.{_≡_}
 use borrow.Author.Needs.{needs}
 use lib.ListN.{length}
-use Rattle.replay_lines.specs.Tells.{Enough}
 use Rattle.replay.proofs.run.Statement.{statement}
 use Rattle.replay.proofs.run.Tie as tie
 
 abbrev Inv-loop : tie.InvT-loop
-Inv-loop first₀ second₀ text₀ out₀ now₀ turns₀ go₀ first second text out now turns go =
-    (length first ≡ length first₀) × (length second ≡ length second₀) × (length text ≡ length text₀) × (length out ≡ length out₀)
-    × Enough first second text out
+Inv-loop line₀ first₀ second₀ out₀ s₀ turns₀ more₀ line first second out s turns more =
+    (length line ≡ length line₀) × (length first ≡ length first₀) × (length second ≡ length second₀) × (length out ≡ length out₀)
 
 abbrev μ-loop : tie.MeasureT-loop
-μ-loop first₀ second₀ text₀ out₀ now₀ turns₀ go₀ first second text out now turns go = turns
+μ-loop line₀ first₀ second₀ out₀ s₀ turns₀ more₀ line first second out s turns more = turns
 
 pub run-spec : {M : Type 1} → statement M
 run-spec =
@@ -20,11 +18,13 @@ run-spec =
     (tie.spec
     Inv-loop
     μ-loop
+    (λ c κs. search needs)
     (λ c. search needs)
     (λ c κs. search needs)
     (λ c. search needs)
     (λ c. search needs)
     (λ c. search needs)
+    (λ c κs. search needs)
     (λ c. search needs)
     (λ c. search needs)
     (λ c. search needs)

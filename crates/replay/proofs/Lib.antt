@@ -1,0 +1,2 @@
+-- The laws behind the promises of `replay`.
+pub mod Taken

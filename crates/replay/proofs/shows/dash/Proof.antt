@@ -1,0 +1,27 @@
+-- `shows::dash` ends: the bytes are counted up.
+use Prim.Native.Nat.{_-_}
+use mathlib.Core.Path.{_≡_}
+use borrow.Author.Needs.{needs}
+use lib.ListN.{length}
+use Rattle.replay.proofs.shows.dash.Statement.{statement}
+use Rattle.replay.proofs.shows.dash.Tie as tie
+
+abbrev Inv-loop : tie.InvT-loop
+Inv-loop text₀ i₀ text i = length text ≡ length text₀
+
+abbrev μ-loop : tie.MeasureT-loop
+μ-loop text₀ i₀ text i = length text₀ - i
+
+pub dash-spec : {M : Type 1} → statement M
+dash-spec =
+    tie.close
+    (tie.spec
+    Inv-loop
+    μ-loop
+    (λ c. search needs)
+    (λ c. search needs)
+    (λ c. search needs)
+    (λ c. search needs)
+    (λ c. search needs)
+    (λ c. search needs)
+    (λ c. search needs))

@@ -1,0 +1,2 @@
+-- What the promises of `replay` cite.
+pub mod Lines

@@ -1,0 +1,90 @@
+// What stands on the desk, two containers and a cursor, and what is placed there.
+use crate::lines::Asked;
+use cursors::Cursor;
+use ring::Ring;
+use vector::Vector;
+ghost use Prim.Native.Nat.{_≤_};
+
+// How many of the lent slots each container has, the containers, and the cursor. A vector is its length, with head 0.
+pub(crate) struct Desk {
+    pub(crate) cap: usize,
+    pub(crate) cap2: usize,
+    pub(crate) first: Ring,
+    pub(crate) second: Ring,
+    pub(crate) cursor: Cursor,
+}
+
+pub(crate) fn ring(head: usize, len: usize) -> Ring {
+    Ring { head, len }
+}
+
+pub(crate) fn vector(of: Ring) -> Vector {
+    Vector { len: of.len }
+}
+
+fn cursor(front: usize, back: usize) -> Cursor {
+    Cursor { front, back }
+}
+
+// The desk at the start.
+pub(crate) fn cleared() -> Desk {
+    Desk {
+        cap: 0,
+        cap2: 0,
+        first: ring(0, 0),
+        second: ring(0, 0),
+        cursor: cursor(0, 0),
+    }
+}
+
+pub(crate) fn least(a: usize, b: usize) -> usize
+    ensures { λ r. ⌜ (r ≤ a) × (r ≤ b) ⌝ }
+{
+    if a < b { a } else { b }
+}
+
+// How many of the lent slots a container has.
+pub(crate) fn count(cap: usize, lent: usize) -> usize
+    ensures { λ r. ⌜ (r ≤ 4200) × (r ≤ lent) ⌝ }
+{
+    least(least(cap, 4200), lent)
+}
+
+// All of a run of slots is 0.
+fn bare(slots: &mut [u32]) {
+    let mut i = 0;
+    while i < slots.len() {
+        slots[i] = 0;
+        i += 1;
+    }
+}
+
+// A slot that isn't there is passed over.
+pub(crate) fn lay(slots: &mut [u32], at: usize, x: u32) {
+    if at < slots.len() {
+        slots[at] = x;
+    }
+}
+
+// Operations 01 to 07: lines.rt lets no other through.
+pub(crate) fn place(q: Asked, mut desk: Desk, first: &mut [u32], second: &mut [u32]) -> Desk {
+    let op = q.op;
+    match op {
+        0x01 => {
+            bare(first);
+            desk.cap = q.a;
+            desk.first = ring(0, 0);
+        }
+        0x02 => desk.first = ring(q.a, q.b),
+        0x03 => lay(first, q.a, q.x),
+        0x04 => {
+            bare(second);
+            desk.cap2 = q.a;
+            desk.second = ring(0, 0);
+        }
+        0x05 => desk.second = ring(q.a, q.b),
+        0x06 => lay(second, q.a, q.x),
+        _ => desk.cursor = cursor(q.a, q.b), // 07
+    }
+    desk
+}

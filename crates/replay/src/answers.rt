@@ -32,7 +32,7 @@ impl Desk {
     }
 
     pub(crate) fn after_vector(mut self, a: vector::Answer) -> Did {
-        self.first = crate::desks::ring(0, a.vector.len);
+        self.first = ring::state(0, a.vector.len);
         self.did(a.number, a.value, a.moves)
     }
 
@@ -45,15 +45,15 @@ impl Desk {
     }
 
     pub(crate) fn after_vectors(mut self, a: pairs::vectors::Both) -> Did {
-        self.first = crate::desks::ring(0, a.first.len);
-        self.second = crate::desks::ring(0, a.second.len);
+        self.first = ring::state(0, a.first.len);
+        self.second = ring::state(0, a.second.len);
         self.did(a.number, a.value, a.moves)
     }
 
     // A part bears no number: its length stands as the value, and a line for each entry is in the text.
     pub(crate) fn after_part(mut self, count: usize) -> Did {
         let n = crate::desks::least(count, 4200);
-        self.first = crate::desks::ring(0, self.first.len);
+        self.first = ring::state(0, self.first.len);
         let mut did = self.did(0, n as u32, 0);
         did.shown = 9 * n;
         did
@@ -80,7 +80,7 @@ impl Desk {
 
     pub(crate) fn after_taken(mut self, t: Taken) -> Did {
         let cursor = t.cursor;
-        self.second = crate::desks::ring(0, t.vector.len);
+        self.second = ring::state(0, t.vector.len);
         self.after_walk(t.number, 0, cursor)
     }
 }

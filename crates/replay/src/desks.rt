@@ -14,12 +14,8 @@ pub(crate) struct Desk {
     pub(crate) cursor: Cursor,
 }
 
-pub(crate) fn ring(head: usize, len: usize) -> Ring {
-    Ring { head, len }
-}
-
 pub(crate) fn vector(of: Ring) -> Vector {
-    Vector { len: of.len }
+    vector::state(of.len)
 }
 
 fn cursor(front: usize, back: usize) -> Cursor {
@@ -31,8 +27,8 @@ pub(crate) fn cleared() -> Desk {
     Desk {
         cap: 0,
         cap2: 0,
-        first: ring(0, 0),
-        second: ring(0, 0),
+        first: ring::state(0, 0),
+        second: ring::state(0, 0),
         cursor: cursor(0, 0),
     }
 }
@@ -73,16 +69,16 @@ pub(crate) fn place(q: Asked, mut desk: Desk, first: &mut [u32], second: &mut [u
         0x01 => {
             bare(first);
             desk.cap = q.a;
-            desk.first = ring(0, 0);
+            desk.first = ring::state(0, 0);
         }
-        0x02 => desk.first = ring(q.a, q.b),
+        0x02 => desk.first = ring::state(q.a, q.b),
         0x03 => lay(first, q.a, q.x),
         0x04 => {
             bare(second);
             desk.cap2 = q.a;
-            desk.second = ring(0, 0);
+            desk.second = ring::state(0, 0);
         }
-        0x05 => desk.second = ring(q.a, q.b),
+        0x05 => desk.second = ring::state(q.a, q.b),
         0x06 => lay(second, q.a, q.x),
         _ => desk.cursor = cursor(q.a, q.b), // 07
     }

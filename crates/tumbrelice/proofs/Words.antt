@@ -38,27 +38,28 @@ worded m x k word few fits e =
     }
 
 -- an answer fits a word
-abbrev Fits : (m moves : ℕ) → Type 0
-Fits m moves = (m < 16) × (moves < 4096)
+module _ (call : Call) (r : Ring) (s z : List ℕ) (a : ringAnswer.Answer) (e : rings.Meets call r s a z) where
+  pub ring-number-fits : a .number < 16
+  ring-number-fits = omega (arith, few-numbers ring call (rings.tray r s), ap (λ (o : Outcome). o .number) (e .row))
 
-pub fits-ring : (call : Call) (r : Ring) (s z : List ℕ) (a : ringAnswer.Answer) → has call ring ≡ true → rings.Meets call r s a z → Fits (a .number) (a .moves)
-fits-ring call r s z a of e = (
-  omega (arith, few-numbers ring call (rings.tray r s), ap (λ (o : Outcome). o .number) (e .row)),
-  omega (arith, few-moves ring call (rings.tray r s) of, ap (λ (o : Outcome). o .moves) (e .row)),
-)
+  pub ring-moves-fit : has call ring ≡ true → a .moves < 4096
+  ring-moves-fit of = omega (arith, few-moves ring call (rings.tray r s) of, ap (λ (o : Outcome). o .moves) (e .row))
 
-pub fits-vector : (call : Call) (v : Vector) (s z : List ℕ) (a : vectorAnswer.Answer) → has call vector ≡ true → vectors.Meets call v s a z
-    → Fits (a .number) (a .moves)
-fits-vector call v s z a of e = (
-  omega (arith, few-numbers vector call (vectors.tray v s), ap (λ (o : Outcome). o .number) (e .row)),
-  omega (arith, few-moves vector call (vectors.tray v s) of, ap (λ (o : Outcome). o .moves) (e .row)),
-)
+module _ (call : Call) (v : Vector) (s z : List ℕ) (a : vectorAnswer.Answer) (e : vectors.Meets call v s a z) where
+  pub vector-number-fits : a .number < 16
+  vector-number-fits = omega (arith, few-numbers vector call (vectors.tray v s), ap (λ (o : Outcome). o .number) (e .row))
 
-pub fits-two : (call : Call2) (r t : Ring) (s z s′ z′ : List ℕ) (a : Both) → pairs.Meets call r s t z a s′ z′ → Fits (a .number) (a .moves)
-fits-two call r t s z s′ z′ a e = (
-  omega (arith, few-numbers2 ring ring call (rings.tray r s) (rings.tray t z), ap (λ (o : Outcome2). o .number) (e .row)),
-  omega (arith, moves-of2 ring ring call (rings.tray r s) (rings.tray t z), ap (λ (o : Outcome2). o .moves) (e .row)),
-)
+  pub vector-moves-fit : has call vector ≡ true → a .moves < 4096
+  vector-moves-fit of = omega (arith, few-moves vector call (vectors.tray v s) of, ap (λ (o : Outcome). o .moves) (e .row))
+
+module _ (call : Call2) (r t : Ring) (s z s′ z′ : List ℕ) (a : Both) (e : pairs.Meets call r s t z a s′ z′) where
+  pub two-number-fits : a .number < 16
+  two-number-fits = omega (arith, few-numbers2 ring ring call (rings.tray r s) (rings.tray t z), ap (λ (o : Outcome2). o .number) (e .row))
+
+  pub two-moves-fit : a .moves < 4096
+  two-moves-fit = omega (arith, moves-of2 ring ring call (rings.tray r s) (rings.tray t z), ap (λ (o : Outcome2). o .moves) (e .row))
+
+pub ruleset fits = (ring-number-fits, ring-moves-fit, vector-number-fits, vector-moves-fit, two-number-fits, two-moves-fit)
 
 -- what is heard of a call is what is seen of it
 pub heard-at : (m x k word : ℕ) (t : Tray) (u : Cursor) (o : Outcome) → Worded m x k word

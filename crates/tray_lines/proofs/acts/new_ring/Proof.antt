@@ -11,4 +11,4 @@ new-ring-spec =
     (tie.spec
     (λ c. search needs)
     (λ c κs. search needs)
-    (λ c. ap (λ (o : Outcome). o .tray) (c .before .new .ensures)))
+    (λ c. ap (λ (o : Outcome). o .tray) (c .before .new .ensures .row)))

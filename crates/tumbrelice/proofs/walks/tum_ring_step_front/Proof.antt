@@ -8,8 +8,7 @@ pub tum-ring-step-front-spec : {M : Type 1} → statement M
 tum-ring-step-front-spec =
     tie.close
     (tie.spec
-    (λ c. search needs)
-    (λ c. search needs)
+    (λ c κs. search needs)
     (λ c. search needs)
     (λ c. search needs)
     (λ c κs. search needs)

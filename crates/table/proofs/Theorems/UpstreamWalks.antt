@@ -56,33 +56,43 @@ module _ (u : Cursor) (l : List ℕ) (order : InOrder u (length l)) where
       ∙ ap (λ x. take (u .back - 1 - u .front) (drop (u .front) l) ++ (x ∷ [])) (getD-drop (u .front) l (u .back - 1 - u .front) 0 ∙ ap (λ j. getD l j 0) last)
 
 -- BEGINNINGS: iter and into_iter, which keeps the container, give all entries
+pub record Begins (k : Kind) (t : Tray) (o : Outcome) : Type 0 where
+  pub iter-answers : invalid k t ≡ false → o .number ≡ 0
+  pub iter-remaining : invalid k t ≡ false → remaining (o .cursor) (list k t) ≡ list k t
+  pub iter-decrease : invalid k t ≡ false → o .cursor .back - o .cursor .front ≡ length (list k t)
+
 module _ (k : Kind) (t : Tray) (o : Outcome) where
-  all-remain : o .cursor ≡ record { front = 0; back = t .len } → remaining (o .cursor) (list k t) ≡ list k t
-  all-remain e = rw e (take-all (t .len - 0) (list k t) (omega (arith, many k t)))
+  begins : (invalid k t ≡ false → o .number ≡ 0) → (o .number ≡ 0 → o .cursor ≡ record { front = 0; back = t .len }) → Begins k t o
+  begins answers all = record {
+    iter-answers = answers;
+    iter-remaining = λ ok. rw (all (answers ok)) (take-all (t .len - 0) (list k t) (omega (arith, many k t)));
+    iter-decrease = λ ok. rw (all (answers ok), many k t) (omega arith);
+  }
 
-  all-left : o .cursor ≡ record { front = 0; back = t .len } → o .cursor .back - o .cursor .front ≡ length (list k t)
-  all-left e = rw (e, many k t) (omega arith)
+  pub iter-begins : o ≡ does k (look iter) t → Begins k t o
+  iter-begins promised = begins (numbered k (look iter) t o promised) (λ done. call-listed k (look iter) t o promised done .cursor)
 
-  module _ (ok : invalid k t ≡ false) where
-    pub iter-answers : o ≡ does k (look iter) t → o .number ≡ 0
-    iter-answers promised = numbered k (look iter) t o promised ok
+  pub into-iter-begins : o ≡ does k (look intoIter) t → Begins k t o
+  into-iter-begins promised = begins (numbered k (look intoIter) t o promised) (λ done. call-listed k (look intoIter) t o promised done .cursor)
 
-    pub iter-remaining : o ≡ does k (look iter) t → remaining (o .cursor) (list k t) ≡ list k t
-    iter-remaining promised = all-remain (call-listed k (look iter) t o promised (iter-answers promised) .cursor)
+-- STEPS AND PEEKS: a step takes one entry off what remains, and of a valid container and a cursor in order it is refused where none remains, a peek where
+-- fewer do
+pub record StepsFront (k : Kind) (t : Tray) (u : Cursor) (o : Outcome) : Type 0 where
+  pub step-front-remaining : o .number ≡ 0 → remaining u (list k t) ≡ o .value ∷ remaining (o .cursor) (list k t)
+  pub step-front-answers : invalid k t ≡ false → InOrder u (length (list k t)) → IfSome (o .number) (length (remaining u (list k t)))
 
-    pub iter-decrease : o ≡ does k (look iter) t → o .cursor .back - o .cursor .front ≡ length (list k t)
-    iter-decrease promised = all-left (call-listed k (look iter) t o promised (iter-answers promised) .cursor)
+pub record StepsBack (k : Kind) (t : Tray) (u : Cursor) (o : Outcome) : Type 0 where
+  pub step-back-remaining : o .number ≡ 0 → remaining u (list k t) ≡ remaining (o .cursor) (list k t) ++ (o .value ∷ [])
+  pub step-back-answers : invalid k t ≡ false → InOrder u (length (list k t)) → IfSome (o .number) (length (remaining u (list k t)))
 
-    pub into-iter-answers : o ≡ does k (look intoIter) t → o .number ≡ 0
-    into-iter-answers promised = numbered k (look intoIter) t o promised ok
+pub record PeeksFront (k : Kind) (t : Tray) (u : Cursor) (m : ℕ) (o : Outcome) : Type 0 where
+  pub peek-front-value : o .number ≡ 0 → o .value ≡ getD (remaining u (list k t)) m 0
+  pub peek-front-answers : invalid k t ≡ false → InOrder u (length (list k t)) → IfInside (o .number) (length (remaining u (list k t))) m
 
-    pub into-iter-remaining : o ≡ does k (look intoIter) t → remaining (o .cursor) (list k t) ≡ list k t
-    into-iter-remaining promised = all-remain (call-listed k (look intoIter) t o promised (into-iter-answers promised) .cursor)
+pub record PeeksBack (k : Kind) (t : Tray) (u : Cursor) (m : ℕ) (o : Outcome) : Type 0 where
+  pub peek-back-value : o .number ≡ 0 → o .value ≡ getD (remaining u (list k t)) (length (remaining u (list k t)) - m - 1) 0
+  pub peek-back-answers : invalid k t ≡ false → InOrder u (length (list k t)) → IfInside (o .number) (length (remaining u (list k t))) m
 
-    pub into-iter-decrease : o ≡ does k (look intoIter) t → o .cursor .back - o .cursor .front ≡ length (list k t)
-    into-iter-decrease promised = all-left (call-listed k (look intoIter) t o promised (into-iter-answers promised) .cursor)
-
--- STEPS AND PEEKS
 module _ (k : Kind) (t : Tray) (o : Outcome) (u : Cursor) where
   ordered : astray u (t .len) ≡ false → InOrder u (length (list k t))
   ordered e = in-order u (length (list k t)) (rw (many k t) e)
@@ -90,40 +100,7 @@ module _ (k : Kind) (t : Tray) (o : Outcome) (u : Cursor) where
   unended : InOrder u (length (list k t)) → ended u ≡ false → u .front < u .back
   unended order e = let differ = eqb-false (u .front) (u .back) e in omega (arith, order .0, differ)
 
-  -- a step takes one entry off what remains
-  pub step-front-remaining : o ≡ does k (look (stepFront u)) t → o .number ≡ 0 → remaining u (list k t) ≡ o .value ∷ remaining (o .cursor) (list k t)
-  step-front-remaining promised done =
-      let clear = call-clear k (look (stepFront u)) t o promised done in
-      let told = call-listed k (look (stepFront u)) t o promised done in
-      let order = ordered (clear .1 .0) in
-      rw (told .value, told .cursor) (without-first u (list k t) order (unended order (clear .1 .1 .0)))
-
-  pub step-back-remaining : o ≡ does k (look (stepBack u)) t → o .number ≡ 0 → remaining u (list k t) ≡ remaining (o .cursor) (list k t) ++ (o .value ∷ [])
-  step-back-remaining promised done =
-      let clear = call-clear k (look (stepBack u)) t o promised done in
-      let told = call-listed k (look (stepBack u)) t o promised done in
-      let order = ordered (clear .1 .0) in
-      rw (told .value, told .cursor) (without-last u (list k t) order (unended order (clear .1 .1 .0)))
-
-  pub peek-value : (m : ℕ) → o ≡ does k (look (peekFront u m)) t → o .number ≡ 0 → o .value ≡ getD (remaining u (list k t)) m 0
-  peek-value m promised done =
-      let clear = call-clear k (look (peekFront u m)) t o promised done in
-      let below : m < u .back - u .front = leb-false (u .back - u .front) m (clear .1 .1 .0) in
-      done-value k (look (peekFront u m)) t o promised done ∙ sym (remaining-at u (list k t) (ordered (clear .1 .0)) m below)
-
-  pub peek-back-value : (m : ℕ) → o ≡ does k (look (peekBack u m)) t → o .number ≡ 0
-      → o .value ≡ getD (remaining u (list k t)) (length (remaining u (list k t)) - m - 1) 0
-  peek-back-value m promised done =
-      let clear = call-clear k (look (peekBack u m)) t o promised done in
-      let order = ordered (clear .1 .0) in
-      let below : m < u .back - u .front = leb-false (u .back - u .front) m (clear .1 .1 .0) in
-      let from : u .front + (u .back - u .front - m - 1) ≡ u .back - 1 - m = omega arith in
-      rw (length-remaining u (list k t) order)
-      (done-value k (look (peekBack u m)) t o promised done
-      ∙ sym (remaining-at u (list k t) order (u .back - u .front - m - 1) (omega arith) ∙ ap (λ j. getD (list k t) j 0) from))
-
-  -- of a valid container and a cursor in order: a step is refused where none remains, a peek where fewer do
-  module _ (ok : invalid k t ≡ false) (order : InOrder u (length (list k t))) where
+  module _ (order : InOrder u (length (list k t))) where
     before : not (within (u .front) (u .back) (t .len)) ≡ false
     before = inside (u .front) (u .back) (t .len) (order .0) (omega (arith, many k t))
 
@@ -135,31 +112,64 @@ module _ (k : Kind) (t : Tray) (o : Outcome) (u : Cursor) where
         (λ (ge : u .back ≤ u .front). inr (e ∙ rw (eq-eqb (u .front) (u .back) (omega arith)), omega arith))
         (below? (u .front) (u .back)))
 
-    pub step-front-answers : o ≡ does k (look (stepFront u)) t → IfSome (o .number) (length (remaining u (list k t)))
-    step-front-answers promised = some-left (numbered k (look (stepFront u)) t o promised ok ∙ rw before)
+    more-left : (m : ℕ) → o .number ≡ cond (leb (u .back - u .front) m) 3 0 → IfInside (o .number) (length (remaining u (list k t))) m
+    more-left m e = rw (length-remaining u (list k t) order) (by-le (o .number) (u .back - u .front) m 3 e)
 
-    pub step-back-answers : o ≡ does k (look (stepBack u)) t → IfSome (o .number) (length (remaining u (list k t)))
-    step-back-answers promised = some-left (numbered k (look (stepBack u)) t o promised ok ∙ rw before)
+  pub front-steps : o ≡ does k (look (stepFront u)) t → StepsFront k t u o
+  front-steps promised = record {
+    step-front-remaining = λ done.
+        let clear = call-clear k (look (stepFront u)) t o promised done in
+        let told = call-listed k (look (stepFront u)) t o promised done in
+        let order = ordered (clear .1 .0) in
+        rw (told .value, told .cursor) (without-first u (list k t) order (unended order (clear .1 .1 .0)));
+    step-front-answers = λ ok order. some-left order (numbered k (look (stepFront u)) t o promised ok ∙ rw (before order));
+  }
 
-    pub peek-answers : (m : ℕ) → o ≡ does k (look (peekFront u m)) t → IfInside (o .number) (length (remaining u (list k t))) m
-    peek-answers m promised =
-        rw (length-remaining u (list k t) order) (by-le (o .number) (u .back - u .front) m 3 (numbered k (look (peekFront u m)) t o promised ok ∙ rw before))
+  pub back-steps : o ≡ does k (look (stepBack u)) t → StepsBack k t u o
+  back-steps promised = record {
+    step-back-remaining = λ done.
+        let clear = call-clear k (look (stepBack u)) t o promised done in
+        let told = call-listed k (look (stepBack u)) t o promised done in
+        let order = ordered (clear .1 .0) in
+        rw (told .value, told .cursor) (without-last u (list k t) order (unended order (clear .1 .1 .0)));
+    step-back-answers = λ ok order. some-left order (numbered k (look (stepBack u)) t o promised ok ∙ rw (before order));
+  }
 
-    pub peek-back-answers : (m : ℕ) → o ≡ does k (look (peekBack u m)) t → IfInside (o .number) (length (remaining u (list k t))) m
-    peek-back-answers m promised =
-        rw (length-remaining u (list k t) order) (by-le (o .number) (u .back - u .front) m 3 (numbered k (look (peekBack u m)) t o promised ok ∙ rw before))
+  pub front-peeks : (m : ℕ) → o ≡ does k (look (peekFront u m)) t → PeeksFront k t u m o
+  front-peeks m promised = record {
+    peek-front-value = λ done.
+        let clear = call-clear k (look (peekFront u m)) t o promised done in
+        let below : m < u .back - u .front = leb-false (u .back - u .front) m (clear .1 .1 .0) in
+        done-value k (look (peekFront u m)) t o promised done ∙ sym (remaining-at u (list k t) (ordered (clear .1 .0)) m below);
+    peek-front-answers = λ ok order. more-left order m (numbered k (look (peekFront u m)) t o promised ok ∙ rw (before order));
+  }
+
+  pub back-peeks : (m : ℕ) → o ≡ does k (look (peekBack u m)) t → PeeksBack k t u m o
+  back-peeks m promised = record {
+    peek-back-value = λ done.
+        let clear = call-clear k (look (peekBack u m)) t o promised done in
+        let order = ordered (clear .1 .0) in
+        let below : m < u .back - u .front = leb-false (u .back - u .front) m (clear .1 .1 .0) in
+        let from : u .front + (u .back - u .front - m - 1) ≡ u .back - 1 - m = omega arith in
+        rw (length-remaining u (list k t) order)
+        (done-value k (look (peekBack u m)) t o promised done
+        ∙ sym (remaining-at u (list k t) order (u .back - u .front - m - 1) (omega arith) ∙ ap (λ j. getD (list k t) j 0) from));
+    peek-back-answers = λ ok order. more-left order m (numbered k (look (peekBack u m)) t o promised ok ∙ rw (before order));
+  }
 
 -- FROM_ITER fills T with what remained, and nothing remains
-module _ (k k2 : Kind) (t t2 : Tray) (o : Outcome2) (u : Cursor) (promised : o ≡ does2 k k2 (fromIter u) t t2) where
+pub record Fills (k k2 : Kind) (t t2 : Tray) (u : Cursor) (o : Outcome2) : Type 0 where
   pub from-iter-list : o .number ≡ 0 → list k2 (o .second) ≡ remaining u (list k t)
-  from-iter-list = second-list k k2 (fromIter u) t t2 o promised
-
   pub from-iter-ended : o .number ≡ 0 → remaining (o .cursor) (list k t) ≡ []
-  from-iter-ended done = let none : u .back - u .back ≡ 0 = omega arith in rw (two-listed k k2 (fromIter u) t t2 o promised done .cursor, none)
-
   pub from-iter-answers : invalid k t ≡ false → invalid k2 t2 ≡ false → InOrder u (length (list k t))
       → IfTakes (o .number) (cap t2) (length (list k2 t2)) (length (remaining u (list k t)))
-  from-iter-answers ok ok2 order =
+
+pub from-iter-fills : (k k2 : Kind) (t t2 : Tray) (o : Outcome2) (u : Cursor) → o ≡ does2 k k2 (fromIter u) t t2 → Fills k k2 t t2 u o
+from-iter-fills k k2 t t2 o u promised = record {
+  from-iter-list = second-list k k2 (fromIter u) t t2 o promised;
+  from-iter-ended = λ done. let none : u .back - u .back ≡ 0 = omega arith in rw (two-listed k k2 (fromIter u) t t2 o promised done .cursor, none);
+  from-iter-answers = λ ok ok2 order.
       let fine = inside (u .front) (u .back) (t .len) (order .0) (omega (arith, many k t)) in
       rw (many k2 t2, length-remaining u (list k t) order)
-      (by-taking (o .number) (cap t2) (t2 .len) (u .back - u .front) (numbered2 k k2 (fromIter u) t t2 o promised ok ok2 ∙ rw fine))
+      (by-taking (o .number) (cap t2) (t2 .len) (u .back - u .front) (numbered2 k k2 (fromIter u) t t2 o promised ok ok2 ∙ rw fine));
+}

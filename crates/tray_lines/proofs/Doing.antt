@@ -30,28 +30,30 @@ use Rattle.tray_lines.specs.Acts.{Act, one, two, ringAct, vectorAct, bes
 use Rattle.tray_lines.specs.Seen.{ringHere, vectorHere, world, ringsSeen, vectorsSeen, oneRing, oneVector, twoRings, twoVectors, ringAnswer, vectorAnswer}
 
 -- an operation on one container: `op` is known to be `is`
-pub ring-one : (op is : RingOp) (call : table.Call) (t : Tray) (a : ringAnswers.Answer) (s : List ℕ) (other : HeldRing) (d : RingDid)
-    → op ≡ is → ringAct is ≡ one call → rings.seen a s ≡ does ring call t → d ≡ oneRing a s other
-    → ringsSeen d ≡ actDoes ring (ringAct op) t (ringHere other .tray)
-ring-one op is call t a s other d eo ec ea ed =
-    ap ringsSeen ed ∙ ap (λ o. beside o (ringHere other .tray)) ea ∙ sym (ap (λ (x : Act). actDoes ring x t (ringHere other .tray)) (ap ringAct eo ∙ ec))
+pub ring-one : (op is : RingOp) (call : table.Call) (me : HeldRing) (a : ringAnswers.Answer) (s : List ℕ) (other : HeldRing) (d : RingDid)
+    → op ≡ is → ringAct is ≡ one call → rings.Meets call (me .ring) (me .slots) a s → d ≡ oneRing a s other
+    → ringsSeen d ≡ actDoes ring (ringAct op) (ringHere me .tray) (ringHere other .tray)
+ring-one op is call me a s other d eo ec ea ed =
+    ap ringsSeen ed ∙ ap (λ o. beside o (ringHere other .tray)) (ea .row) ∙ sym (ap (λ (x : Act). actDoes ring x (ringHere me .tray) (ringHere other .tray)) (ap ringAct eo ∙ ec))
 
-pub vector-one : (op is : VectorOp) (call : table.Call) (t : Tray) (a : vectorAnswers.Answer) (s : List ℕ) (other : HeldVector) (d : VectorDid)
-    → op ≡ is → vectorAct is ≡ one call → vectors.seen a s ≡ does vector call t → d ≡ oneVector a s other
-    → vectorsSeen d ≡ actDoes vector (vectorAct op) t (vectorHere other .tray)
-vector-one op is call t a s other d eo ec ea ed =
-    ap vectorsSeen ed ∙ ap (λ o. beside o (vectorHere other .tray)) ea ∙ sym (ap (λ (x : Act). actDoes vector x t (vectorHere other .tray)) (ap vectorAct eo ∙ ec))
+pub vector-one : (op is : VectorOp) (call : table.Call) (me : HeldVector) (a : vectorAnswers.Answer) (s : List ℕ) (other : HeldVector) (d : VectorDid)
+    → op ≡ is → vectorAct is ≡ one call → vectors.Meets call (me .vector) (me .slots) a s → d ≡ oneVector a s other
+    → vectorsSeen d ≡ actDoes vector (vectorAct op) (vectorHere me .tray) (vectorHere other .tray)
+vector-one op is call me a s other d eo ec ea ed =
+    ap vectorsSeen ed ∙ ap (λ o. beside o (vectorHere other .tray)) (ea .row) ∙ sym (ap (λ (x : Act). actDoes vector x (vectorHere me .tray) (vectorHere other .tray)) (ap vectorAct eo ∙ ec))
 
 -- and one on two
-pub ring-two : (op is : RingOp) (call : table.Call2) (t t2 : Tray) (a : ringPair.Both) (s s2 : List ℕ) (d : RingDid)
-    → op ≡ is → ringAct is ≡ two call → ringPairs.seen2 a s s2 ≡ does2 ring ring call t t2 → d ≡ twoRings a s s2
-    → ringsSeen d ≡ actDoes ring (ringAct op) t t2
-ring-two op is call t t2 a s s2 d eo ec ea ed = ap ringsSeen ed ∙ ea ∙ sym (ap (λ (x : Act). actDoes ring x t t2) (ap ringAct eo ∙ ec))
+pub ring-two : (op is : RingOp) (call : table.Call2) (me other : HeldRing) (a : ringPair.Both) (s s2 : List ℕ) (d : RingDid)
+    → op ≡ is → ringAct is ≡ two call → ringPairs.Meets call (me .ring) (me .slots) (other .ring) (other .slots) a s s2 → d ≡ twoRings a s s2
+    → ringsSeen d ≡ actDoes ring (ringAct op) (ringHere me .tray) (ringHere other .tray)
+ring-two op is call me other a s s2 d eo ec ea ed =
+    ap ringsSeen ed ∙ ea .row ∙ sym (ap (λ (x : Act). actDoes ring x (ringHere me .tray) (ringHere other .tray)) (ap ringAct eo ∙ ec))
 
-pub vector-two : (op is : VectorOp) (call : table.Call2) (t t2 : Tray) (a : vectorPair.Both) (s s2 : List ℕ) (d : VectorDid)
-    → op ≡ is → vectorAct is ≡ two call → vectorPairs.seen2 a s s2 ≡ does2 vector vector call t t2 → d ≡ twoVectors a s s2
-    → vectorsSeen d ≡ actDoes vector (vectorAct op) t t2
-vector-two op is call t t2 a s s2 d eo ec ea ed = ap vectorsSeen ed ∙ ea ∙ sym (ap (λ (x : Act). actDoes vector x t t2) (ap vectorAct eo ∙ ec))
+pub vector-two : (op is : VectorOp) (call : table.Call2) (me other : HeldVector) (a : vectorPair.Both) (s s2 : List ℕ) (d : VectorDid)
+    → op ≡ is → vectorAct is ≡ two call → vectorPairs.Meets call (me .vector) (me .slots) (other .vector) (other .slots) a s s2 → d ≡ twoVectors a s s2
+    → vectorsSeen d ≡ actDoes vector (vectorAct op) (vectorHere me .tray) (vectorHere other .tray)
+vector-two op is call me other a s s2 d eo ec ea ed =
+    ap vectorsSeen ed ∙ ea .row ∙ sym (ap (λ (x : Act). actDoes vector x (vectorHere me .tray) (vectorHere other .tray)) (ap vectorAct eo ∙ ec))
 
 -- two rings and two vectors
 abbrev pub four : (t0 t1 t2 t3 : Tray) → World

@@ -59,7 +59,11 @@ module _ (call : Call2) (r t : Ring) (s z s′ z′ : List ℕ) (a : Both) (e : 
   pub two-moves-fit : a .moves < 4096
   two-moves-fit = omega (arith, moves-of2 ring ring call (rings.tray r s) (rings.tray t z), ap (λ (o : Outcome2). o .moves) (e .row))
 
-pub ruleset fits = (ring-number-fits, ring-moves-fit, vector-number-fits, vector-moves-fit, two-number-fits, two-moves-fit)
+pub ruleset ring-fits = (ring-number-fits, ring-moves-fit)
+
+pub ruleset vector-fits = (vector-number-fits, vector-moves-fit)
+
+pub ruleset two-fit = (two-number-fits, two-moves-fit)
 
 -- what is heard of a call is what is seen of it
 pub heard-at : (m x k word : ℕ) (t : Tray) (u : Cursor) (o : Outcome) → Worded m x k word

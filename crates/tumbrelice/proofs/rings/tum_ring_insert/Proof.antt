@@ -1,6 +1,6 @@
 -- `tum_ring_insert` meets its promise: what is heard of the call is what is seen of it.
 use borrow.Author.Needs.{needs}
-use Rattle.tumbrelice.proofs.Words.{fits, ring-hears}
+use Rattle.tumbrelice.proofs.Words.{ring-fits, ring-hears}
 use Rattle.tumbrelice.proofs.rings.tum_ring_insert.Statement.{statement}
 use Rattle.tumbrelice.proofs.rings.tum_ring_insert.Tie as tie
 
@@ -11,6 +11,6 @@ tum-ring-insert-spec =
     (λ c κs. search needs)
     (λ c κs. search needs)
     (λ c κs. search needs)
-    (λ c κs. search fits)
+    (λ c κs. search ring-fits)
     (λ c. search needs)
     (λ c. search ring-hears))

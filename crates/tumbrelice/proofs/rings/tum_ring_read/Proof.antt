@@ -1,6 +1,6 @@
 -- `tum_ring_read` meets its promise: what is heard of the call is what is seen of it.
 use borrow.Author.Needs.{needs}
-use Rattle.tumbrelice.proofs.Words.{fits, ring-looked}
+use Rattle.tumbrelice.proofs.Words.{ring-fits, ring-looked}
 use Rattle.tumbrelice.proofs.rings.tum_ring_read.Statement.{statement}
 use Rattle.tumbrelice.proofs.rings.tum_ring_read.Tie as tie
 
@@ -10,5 +10,5 @@ tum-ring-read-spec =
     (tie.spec
     (λ c κs. search needs)
     (λ c κs. search needs)
-    (λ c κs. search fits)
+    (λ c κs. search ring-fits)
     (λ c. search ring-looked))

@@ -1,6 +1,6 @@
 -- `tum_vector_extend_from_slice` meets its promise: what is heard of the call is what is seen of it.
 use borrow.Author.Needs.{needs}
-use Rattle.tumbrelice.proofs.Words.{fits, vector-hears}
+use Rattle.tumbrelice.proofs.Words.{vector-fits, vector-hears}
 use Rattle.tumbrelice.proofs.vectors.tum_vector_extend_from_slice.Statement.{statement}
 use Rattle.tumbrelice.proofs.vectors.tum_vector_extend_from_slice.Tie as tie
 
@@ -11,6 +11,6 @@ tum-vector-extend-from-slice-spec =
     (λ c κs. search needs)
     (λ c κs. search needs)
     (λ c κs. search needs)
-    (λ c κs. search fits)
+    (λ c κs. search vector-fits)
     (λ c. search needs)
     (λ c. search vector-hears))

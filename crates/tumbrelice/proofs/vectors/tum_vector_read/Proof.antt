@@ -1,6 +1,6 @@
 -- `tum_vector_read` meets its promise: what is heard of the call is what is seen of it.
 use borrow.Author.Needs.{needs}
-use Rattle.tumbrelice.proofs.Words.{fits, vector-looked}
+use Rattle.tumbrelice.proofs.Words.{vector-fits, vector-looked}
 use Rattle.tumbrelice.proofs.vectors.tum_vector_read.Statement.{statement}
 use Rattle.tumbrelice.proofs.vectors.tum_vector_read.Tie as tie
 
@@ -10,5 +10,5 @@ tum-vector-read-spec =
     (tie.spec
     (λ c κs. search needs)
     (λ c κs. search needs)
-    (λ c κs. search fits)
+    (λ c κs. search vector-fits)
     (λ c. search vector-looked))

@@ -7,7 +7,7 @@ use Rattle.slots.specs.Layout.{Kind, ring, vector}
 use Rattle.table.specs.Tray.{Tray}
 use Rattle.table.specs.Calls as table
 use Rattle.table.specs.Calls.{new}
-use Rattle.table.specs.Does.{Outcome2, does, does2, made}
+use Rattle.table.specs.Does.{Outcome2, made}
 use Rattle.table.specs.World.{World}
 use Rattle.ring.specs.Seen as rings
 use Rattle.vector.specs.Seen as vectors

@@ -4,70 +4,77 @@ use libc::STDOUT_FILENO;
 use tray_lines::feeds::Fed;
 use tray_lines::feeds::State;
 ghost use mathlib.Core.Path.{_≡_};
-ghost use Prim.Native.Nat.{_*_, _≤_};
+ghost use Prim.Native.Nat.{_*_, _<_, _≤_};
 ghost use lib.ListN.{length};
+ghost use Rattle.tray_lines.specs.Feeds.{feeds, keeping, midway};
+ghost use Rattle.tray.specs.Reading.{Turned, Ran};
 
-// After a turn: whether there is more to read, whether the output still takes what is written, and where the program stands.
+// After some reads: how many bytes they read in all and the last of them, whether the output took what was written, and where the program stands.
 struct Went {
-    more: bool,
-    open: bool,
+    read: u64,
+    last: usize,
+    heard: bool,
     state: State,
 }
+
+// No run reads so many bytes: a proved loop has to end, and the count must fit.
+const ENOUGH: u64 = 18446744073709547519; // 2^64 − 4097
 
 // What a run of bytes is answered: with room for all answers no byte of it is left over.
 fn say(s: State, part: &[u8], out: &mut [u8]) -> Fed
     requires { ⌜ 23 * length (now part) ≤ length (now out) ⌝ }
-    ensures { λ r. ⌜ (r .took ≡ length (now (part .entry))) × (r .count ≤ length (now (out .exit))) ⌝ }
+    ensures { λ r. ⌜ (midway (r .state) ≡ feeds keeping (midway s) (now (part .entry)) .state) × (r .count ≤ length (now (out .exit))) ⌝ }
 {
     tray_lines::feeds::feed(s, part, out)
 }
 
-// One read, what it is answered, and one write.
-fn turn(s: State) -> Went {
-    let mut buf = io::buffer();
-    let mut out = [0u8; 94208]; // 23 bytes for each that is read
-    let got = libc::read(STDIN_FILENO, &mut buf);
-    if got <= 0 {
-        return Went {
-            more: false,
-            open: true,
-            state: s,
-        };
-    }
-    let n = io::count(got, &buf);
-    let f = say(s, &buf[..n], &mut out);
+// One read, what it is answered, and one write. At the end of the input no byte is read.
+fn turn(went: Went, buf: &mut [u8], out: &mut [u8]) -> Went
+    requires { ⌜ (went .read < 18446744073709547519) × (length (now buf) ≤ 4096) × (23 * length (now buf) ≤ length (now out)) ⌝ }
+    ensures { λ r. ⌜ Turned went (now (buf .exit)) r ⌝ }
+{
+    let so_far = went.read;
+    let s = went.state;
+    let got = libc::read(STDIN_FILENO, buf);
+    let n = io::count(got, buf);
+    let f = say(s, &buf[..n], out);
     let count = f.count;
     let next = f.state;
-    let open = io::write_all(STDOUT_FILENO, &out[0..count]);
+    let heard = io::write_all(STDOUT_FILENO, &out[0..count]);
     Went {
-        more: true,
-        open,
+        read: so_far + n as u64,
+        last: n,
+        heard,
         state: next,
     }
 }
 
-// A proved loop has to end: the turns are counted down from a number that no run uses up.
-fn run(first: State) -> Went {
+// Until the input ends or the output is closed. The bytes are counted for the promise: no read is left out of what the state was made of.
+fn run(first: State, buf: &mut [u8], out: &mut [u8]) -> Went
+    requires { ⌜ (length (now buf) ≤ 4096) × (23 * length (now buf) ≤ length (now out)) ⌝ }
+    ensures { λ r. ⌜ Ran first r ⌝ }
+{
     let mut went = Went {
-        more: true,
-        open: true,
+        read: 0,
+        last: 0,
+        heard: true,
         state: first,
     };
-    let mut turns = u64::MAX;
     let mut go = true;
-    while 0 < turns && go {
-        let s = went.state;
-        went = turn(s);
-        go = went.more & went.open;
-        turns -= 1;
+    while go && went.read < ENOUGH {
+        went = turn(went, buf, out);
+        go = (0 < went.last) & went.heard;
     }
     went
 }
 
 // The last line, where it has no LF and isn't empty. Where the output is closed nothing more is written.
 fn main() {
-    let went = run(tray_lines::feeds::fresh(tray_lines::acts::start()));
-    if went.open {
+    let mut buf = io::buffer();
+    let mut out = [0u8; 94208]; // 23 bytes for each that is read
+    let first = tray_lines::feeds::fresh(tray_lines::acts::start());
+    let went = run(first, &mut buf, &mut out);
+    if went.heard {
         let s = went.state;
         let end = tray_lines::feeds::ended(s);
         let text = end.text;

@@ -163,12 +163,12 @@ unfolding fills
 feed-whole s input out r le e = rw (le-ltb (length out / 23) (length input) le) (e ∙ ap (λ l. fillsAll s l out) (sym (take-length input)))
 
 -- with room for all answers every byte is taken, and the answers are in the text
-pub took-all : (s : Midway Kept) (input out laid : List ℕ) (f : Fed) → 23 * length input ≤ length out → fedSeen f laid ≡ fills s input out → f .took ≡ length input
+pub fed-all : (s : Midway Kept) (input out laid : List ℕ) (f : Fed) → 23 * length input ≤ length out → fedSeen f laid ≡ fills s input out → midway (f .state) ≡ feeds keeping s input .state
 unfolding fills
-took-all s input out laid f fits e =
+fed-all s input out laid f fits e =
     let low : length input ≤ length out / 23 = omega arith in
     let all : take (room input out) input ≡ input = rw (le-ltb (length out / 23) (length input) low) (take-length input) in
-    ap (λ (x : Fills). x .took) e ∙ ap length all
+    ap (λ (x : Fills). x .state) e ∙ ap (λ l. feeds keeping s l .state) all
 
 pub counted : (s : Midway Kept) (input out laid : List ℕ) (f : Fed) → fedSeen f laid ≡ fills s input out → f .count ≤ length laid
 unfolding fills

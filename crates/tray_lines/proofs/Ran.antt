@@ -106,47 +106,55 @@ fed-is (block {s} {input} {out} κs a r e before same learnt) =
     ∙ ap (λ (x : Feeds Kept). then x (feeds keeping (x .state) part)) old
     ∙ cc (put, state)
 
--- A RUN THAT HAS NOT ENDED, or that ends because its output is closed: it has answered the lines that an LF ended, and demand 3 holds of it.
-module _ {s : State} {input out : List ℕ} (fed : Fed s input out) where
-  pub answers-so-far : out ≡ answered begun (finished [] input)
-  answers-so-far = sym (ap (λ (f : Feeds Kept). f .out) (fed-is fed)) ∙ run-so-far begun input .0
+-- WHERE THE PROGRAM STANDS after some bytes, whatever took it there: the lines that an LF ended have made its world, and demand 3 holds of it. That it
+-- stands there is promised by `run` of the program `tray`, and follows of whoever calls `feed` (`fed-there`).
+abbrev pub Stands : (s : State) (input : List ℕ) → Type 0
+Stands s input = midway s ≡ feeds keeping (fresh keeping begun) input .state
 
+pub fed-there : {s : State} {input out : List ℕ} → Fed s input out → Stands s input
+fed-there fed = sym (ap (λ (f : Feeds Kept). f .state) (fed-is fed))
+
+module _ (s : State) (input : List ℕ) (there : Stands s input) where
   pub world-so-far : world (s .trays) ≡ after begun (finished [] input)
-  world-so-far = sym (ap (λ (f : Feeds Kept). f .state .world) (fed-is fed)) ∙ run-so-far begun input .1
+  world-so-far = ap (λ (m : Midway Kept). m .world) there ∙ run-so-far begun input .1
 
   pub demand-3-so-far : (x : ℕ)
       → entered x [] (lines (happened (finished [] input)))
       ≡ handed x [] (lines (happened (finished [] input))) + dropped x [] (lines (happened (finished [] input))) + standingAll x (world (s .trays))
   demand-3-so-far x = balance (finished [] input) world-so-far x
 
--- A WHOLE RUN: every byte that it answers, the last line's answer among them, is what the lines of its input are answered, in their order.
-module _ {s : State} {input out : List ℕ} (fed : Fed s input out)
-    (κs : Lfts 0) (a : ArgsD ended·fn.signature κs) (r : ResD ended·fn.signature κs) (e : AtExit ended·fn.ended κs)
-    (same : a .0 ≡ s) (learnt : ended·reads.Learnt κs a r e) where
-  last : ends keeping (feeds keeping (fresh keeping begun) input .state) ≡ ends keeping (midway s)
-  last = ap (λ (f : Feeds Kept). ends keeping (f .state)) (fed-is fed)
+  -- At the end, where `ended` is called: the last line counts too, if it isn't empty.
+  module _ (κs : Lfts 0) (a : ArgsD ended·fn.signature κs) (r : ResD ended·fn.signature κs) (e : AtExit ended·fn.ended κs)
+      (same : a .0 ≡ s) (learnt : ended·reads.Learnt κs a r e) where
+    finish : _≡_ {A = Ends} (endedSeen r) (endsInto (ends keeping (feeds keeping (fresh keeping begun) input .state)))
+    finish = learnt ∙ ap (λ (u : State). endsInto (ends keeping (midway u))) same ∙ ap (λ (m : Midway Kept). endsInto (ends keeping m)) there
 
-  finish : _≡_ {A = Ends} (endedSeen r) (endsInto (ends keeping (feeds keeping (fresh keeping begun) input .state)))
-  finish = learnt ∙ ap (λ (u : State). endsInto (ends keeping (midway u))) same ∙ ap endsInto (sym last)
+    last-answer : take (r .count) (r .text) ≡ ends keeping (feeds keeping (fresh keeping begun) input .state) .text
+    last-answer =
+        let end : Tells = ends keeping (feeds keeping (fresh keeping begun) input .state) in
+        ap (λ (x : Ends). take (x .count) (x .text)) finish
+        ∙ put-read (replicate 23 0) (end .text) (ends-few (feeds keeping (fresh keeping begun) input .state))
 
-  pub tray-answers : out ++ take (r .count) (r .text) ≡ answered begun (linesOf [] input)
-  tray-answers =
-      let mid : Midway Kept = feeds keeping (fresh keeping begun) input .state in
-      let end : Tells = ends keeping mid in
-      let said : take (r .count) (r .text) ≡ end .text =
-      ap (λ (x : Ends). take (x .count) (x .text)) finish ∙ put-read (replicate 23 0) (end .text) (ends-few mid) in
-      let fed-out : feeds keeping (fresh keeping begun) input .out ≡ out = ap (λ (f : Feeds Kept). f .out) (fed-is fed) in
-      cc (said, fed-out, run-answers begun input .0)
+    pub world-at-end : world (r .trays) ≡ after begun (linesOf [] input)
+    world-at-end = ap (λ (x : Ends). x .world) finish ∙ run-answers begun input .1
 
-  pub tray-world : world (r .trays) ≡ after begun (linesOf [] input)
-  tray-world = ap (λ (x : Ends). x .world) finish ∙ run-answers begun input .1
+    pub demand-3-at-end : (x : ℕ)
+        → entered x [] (lines (happened (linesOf [] input)))
+        ≡ handed x [] (lines (happened (linesOf [] input))) + dropped x [] (lines (happened (linesOf [] input))) + standingAll x (world (r .trays))
+    demand-3-at-end x = balance (linesOf [] input) world-at-end x
 
-  -- DEMAND 3 OF EVERY RUN OF `tray`.
-  pub demand-3-of-tray : (x : ℕ)
-      → entered x [] (lines (happened (linesOf [] input)))
-      ≡ handed x [] (lines (happened (linesOf [] input))) + dropped x [] (lines (happened (linesOf [] input))) + standingAll x (world (r .trays))
-  demand-3-of-tray x = balance (linesOf [] input) tray-world x
+    -- and the model lists that it counts over are what the slots hold
+    pub models-at-end : held (world (r .trays)) ≡ modelled [] (lines (happened (linesOf [] input)))
+    models-at-end = ap held world-at-end ∙ lines-model (linesOf [] input)
 
-  -- and the model lists that it counts over are what the slots hold
-  pub models-of-tray : held (world (r .trays)) ≡ modelled [] (lines (happened (linesOf [] input)))
-  models-of-tray = ap held tray-world ∙ lines-model (linesOf [] input)
+-- WHAT IS ANSWERED to bytes that are fed: the lines that an LF ended, in their order; and at the end, the last line's answer among them, all lines.
+module _ {s : State} {input out : List ℕ} (fed : Fed s input out) where
+  fed-out : feeds keeping (fresh keeping begun) input .out ≡ out
+  fed-out = ap (λ (f : Feeds Kept). f .out) (fed-is fed)
+
+  pub answers-so-far : out ≡ answered begun (finished [] input)
+  answers-so-far = sym fed-out ∙ run-so-far begun input .0
+
+  pub tray-answers : (κs : Lfts 0) (a : ArgsD ended·fn.signature κs) (r : ResD ended·fn.signature κs) (e : AtExit ended·fn.ended κs)
+      → a .0 ≡ s → ended·reads.Learnt κs a r e → out ++ take (r .count) (r .text) ≡ answered begun (linesOf [] input)
+  tray-answers κs a r e same learnt = cc (last-answer s input (fed-there fed) κs a r e same learnt, fed-out, run-answers begun input .0)

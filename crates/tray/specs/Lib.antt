@@ -1,0 +1,2 @@
+-- What the promises of `tray` cite.
+pub mod Reading

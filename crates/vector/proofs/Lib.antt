@@ -1,7 +1,6 @@
 -- The laws that the proofs of the vector's functions cite, what ties its calls to demand 3, that each promise leaves one result, and upstream's
 -- clauses.
 pub mod Told
-pub mod Entries
 pub mod Ours
 pub mod Once
 pub mod Upstream

@@ -1,7 +1,7 @@
 -- Upstream's clauses of a vector's parts, each from the generated contract of its function: what the part holds is `vec@`, or the range of it that is
--- asked, and a writable part given back leaves what it holds as the list.
+-- asked. What a writable part leaves no contract here can say (docs/EXCEPTIONS.md).
 use Prim.Native.Nat.{ℕ, _-_, _≤_}
-use mathlib.Core.Path.{_≡_, ap, _∙_}
+use mathlib.Core.Path.{_≡_, _∙_}
 use mathlib.Core.List.{List, []}
 use native.Mathlib.Omega.{arith}
 use lib.ListN.{length, take, drop}
@@ -9,13 +9,11 @@ use contract.Lifetimes.{Lfts}
 use denote.Ref.{RefT, now}
 use denote.Triple.Clauses.{AtExit}
 use Rattle.slots.specs.Layout.{vector}
-use Rattle.table.specs.Tray.{list}
 use Rattle.table.specs.Numbers.{Astray}
 use Rattle.table.proofs.Laws.Done.{many}
 use Rattle.table.proofs.Theorems.Parts.{part-all, part-holds, part-none, lends-astray}
 use Rattle.vector.specs.declared.Vector.{Vector}
 use Rattle.vector.specs.Seen.{tray}
-use Rattle.vector.proofs.Entries.{back, back-list}
 use Rattle.vector.proofs.Upstream.{view, Valid}
 use Rattle.vector.proofs.Vector as fn
 
@@ -35,16 +33,6 @@ module _ (κs : Lfts 1) (v : Vector) (s r : RefT (List ℕ)) where
 
   pub deref-mut-view : (e : AtExit fn.deref_mut.ended κs) → fn.deref_mut.Reads.Learnt κs (v, (s, tt)) r e → Valid v s → now r ≡ view v s
   deref-mut-view e learnt ok = learnt .holds ∙ part-all (tray v (now s)) ok
-
-  -- `final(slice)@ == final(vec)@`: whatever ys the caller leaves in the part, with them where the part lies in the slots the list is ys. Which ys these
-  -- are no promise can name, since the loan lives on.
-  pub as-mut-slice-back : (e : AtExit fn.«as_mut_slice».ended κs) → fn.«as_mut_slice».Reads.Learnt κs (v, (s, tt)) r e → Valid v s
-      → (ys : List ℕ) → length ys ≡ length (now r) → list vector (tray v (back v (now s) ys)) ≡ ys
-  as-mut-slice-back e learnt ok ys same = back-list v (now s) ys ok (same ∙ ap length (as-mut-slice-view e learnt ok) ∙ many vector (tray v (now s)))
-
-  pub deref-mut-back : (e : AtExit fn.deref_mut.ended κs) → fn.deref_mut.Reads.Learnt κs (v, (s, tt)) r e → Valid v s
-      → (ys : List ℕ) → length ys ≡ length (now r) → list vector (tray v (back v (now s) ys)) ≡ ys
-  deref-mut-back e learnt ok ys same = back-list v (now s) ys ok (same ∙ ap length (deref-mut-view e learnt ok) ∙ many vector (tray v (now s)))
 
 -- index by a range a..b: the part of the list that it names, and nothing where it isn't one
 module _ (κs : Lfts 1) (v : Vector) (s r : RefT (List ℕ)) (a b : ℕ) (e : AtExit fn.range.ended κs) (learnt : fn.range.Reads.Learnt κs (v, (s, (a, (b, tt)))) r e) where

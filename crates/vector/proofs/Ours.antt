@@ -1,6 +1,7 @@
 -- Each call of this crate is an event of demand 3: what a caller learns of it is what `Ours` asks.
 use Prim.Native.Nat.{ℕ}
-use mathlib.Core.Path.{refl}
+use mathlib.Core.Path.{_≡_, refl, ap}
+use mathlib.Core.List.{List}
 use contract.Lifetimes.{Lfts}
 use denote.Ref.{now}
 use denote.Triple.Clauses.{AtExit}
@@ -8,12 +9,13 @@ use borrow.Fn.World.{ArgsD, ResD}
 use Rattle.slots.specs.Layout.{vector}
 use Rattle.table.specs.Calls.{look, len, isEmpty, read, reserve, tryReserve, tryReserveExact, range, new, withCapacity, fromElem}
 use Rattle.table.specs.Calls.{write, push, pop, insert, remove, swapRemove, truncate, resize, clear, extend}
-use Rattle.table.specs.Promise.{Kept}
+use Rattle.table.specs.Tray.{Tray}
+use Rattle.table.specs.Parts.{Part, lends, lendsAll, inPart}
 use Rattle.table.specs.World.{World, make, on, called, Ours}
 use Rattle.table.proofs.Laws.Named.{Is, ours-make, ours-on, ours-called}
 use Rattle.table.proofs.Laws.Keeps.{showing-kept}
 use Rattle.vector.specs.Seen.{tray, seen}
-use Rattle.vector.specs.Reading.{left, reading}
+use Rattle.vector.specs.Reading.{shown, reading}
 use Rattle.vector.proofs.Vector as fns
 
 -- In what follows a are the arguments, r is the result, and e the arguments as they are at the return.
@@ -100,23 +102,24 @@ module _ (w : World) (i : ℕ) (κs : Lfts 2) where
       → Is w i vector (tray (a .0) (now (a .1 .0))) → fns.extend_from_slice.Reads.Learnt κs a r e → Ours w (on i (extend (now (a .1 .1 .0))) (seen r (now (e .1 .0))))
   extend-from-slice-ours a r e is learnt = ours-on w i _ _ _ _ refl is (learnt .row)
 
--- The parts that are only read.
-reading-kept : Kept reading
-reading-kept = showing-kept _ _ (λ k t. refl)
+-- The parts that are only read. That the slots stay is the `&`'s doing; that the part is the one lent is the promise's.
+module _ (part : Tray → Part) (w : World) (i : ℕ) (t : Tray) where
+  reads : (held : List ℕ) → Is w i vector t → held ≡ inPart (part t) (t .slots) → Ours w (called i (reading part) (shown held t))
+  reads held is holds = ours-called w i _ _ _ _ (showing-kept _ _ (λ k t. refl)) refl is (ap (λ l. shown l t) holds)
 
 module _ (w : World) (i : ℕ) (κs : Lfts 1) where
   pub range-ours : (a : ArgsD fns.range.signature κs) (r : ResD fns.range.signature κs) (e : AtExit fns.range.ended κs)
-      → Is w i vector (tray (a .0) (now (a .1 .0))) → fns.range.Reads.Learnt κs a r e → Ours w (called i reading (left (tray (a .0) (now (a .1 .0)))))
-  range-ours a r e is learnt = ours-called w i _ _ _ _ reading-kept refl is refl
+      → Is w i vector (tray (a .0) (now (a .1 .0))) → fns.range.Reads.Learnt κs a r e → Ours w (called i (reading (lends (a .1 .1 .0) (a .1 .1 .1 .0))) (shown (now r) (tray (a .0) (now (a .1 .0)))))
+  range-ours a r e is learnt = reads (lends (a .1 .1 .0) (a .1 .1 .1 .0)) w i _ _ is (learnt .holds)
 
   pub as-slice-ours : (a : ArgsD fns.«as_slice».signature κs) (r : ResD fns.«as_slice».signature κs) (e : AtExit fns.«as_slice».ended κs)
-      → Is w i vector (tray (a .0) (now (a .1 .0))) → fns.«as_slice».Reads.Learnt κs a r e → Ours w (called i reading (left (tray (a .0) (now (a .1 .0)))))
-  as-slice-ours a r e is learnt = ours-called w i _ _ _ _ reading-kept refl is refl
+      → Is w i vector (tray (a .0) (now (a .1 .0))) → fns.«as_slice».Reads.Learnt κs a r e → Ours w (called i (reading lendsAll) (shown (now r) (tray (a .0) (now (a .1 .0)))))
+  as-slice-ours a r e is learnt = reads lendsAll w i _ _ is (learnt .holds)
 
   pub as-ref-ours : (a : ArgsD fns.«as_ref».signature κs) (r : ResD fns.«as_ref».signature κs) (e : AtExit fns.«as_ref».ended κs)
-      → Is w i vector (tray (a .0) (now (a .1 .0))) → fns.«as_ref».Reads.Learnt κs a r e → Ours w (called i reading (left (tray (a .0) (now (a .1 .0)))))
-  as-ref-ours a r e is learnt = ours-called w i _ _ _ _ reading-kept refl is refl
+      → Is w i vector (tray (a .0) (now (a .1 .0))) → fns.«as_ref».Reads.Learnt κs a r e → Ours w (called i (reading lendsAll) (shown (now r) (tray (a .0) (now (a .1 .0)))))
+  as-ref-ours a r e is learnt = reads lendsAll w i _ _ is (learnt .holds)
 
   pub deref-ours : (a : ArgsD fns.deref.signature κs) (r : ResD fns.deref.signature κs) (e : AtExit fns.deref.ended κs)
-      → Is w i vector (tray (a .0) (now (a .1 .0))) → fns.deref.Reads.Learnt κs a r e → Ours w (called i reading (left (tray (a .0) (now (a .1 .0)))))
-  deref-ours a r e is learnt = ours-called w i _ _ _ _ reading-kept refl is refl
+      → Is w i vector (tray (a .0) (now (a .1 .0))) → fns.deref.Reads.Learnt κs a r e → Ours w (called i (reading lendsAll) (shown (now r) (tray (a .0) (now (a .1 .0)))))
+  deref-ours a r e is learnt = reads lendsAll w i _ _ is (learnt .holds)

@@ -4,9 +4,10 @@ use mathlib.Core.Path.{_≡_, refl}
 use mathlib.Core.List.{List}
 use contract.Lifetimes.{Lfts}
 use denote.Ref.{ptr, now}
+use Rattle.slots.proofs.Twice.{Twice}
 use Rattle.table.specs.Calls.{Call, Making}
 use Rattle.table.specs.Does.{Outcome}
-use Rattle.table.proofs.Theorems.Unique.{Twice, one-answer}
+use Rattle.table.proofs.Theorems.Unique.{one-answer}
 use Rattle.vector.specs.declared.Vector.{Vector}
 use Rattle.vector.specs.declared.Answer.{Answer}
 use Rattle.vector.specs.Seen.{seen, Meets, Makes, state, says}

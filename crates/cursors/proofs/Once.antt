@@ -5,9 +5,9 @@ use mathlib.Core.Path.{_≡_, refl, sym, ap, _∙_}
 use mathlib.Core.List.{List}
 use contract.Lifetimes.{Lfts}
 use denote.Ref.{now}
+use Rattle.slots.proofs.Twice.{Twice}
 use Rattle.table.specs.Tray.{Tray, Cursor}
 use Rattle.table.specs.Does.{Outcome, Outcome2}
-use Rattle.table.proofs.Theorems.Unique.{Twice}
 use Rattle.cursors.specs.declared.Cursor as code
 use Rattle.cursors.specs.declared.Begun.{Begun}
 use Rattle.cursors.specs.declared.Taken.{Taken}

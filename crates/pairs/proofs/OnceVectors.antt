@@ -5,8 +5,9 @@ use mathlib.Core.Path.{_≡_, refl}
 use mathlib.Core.List.{List}
 use contract.Lifetimes.{Lfts}
 use denote.Ref.{now}
+use Rattle.slots.proofs.Twice.{Twice}
 use Rattle.table.specs.Calls.{Call2}
-use Rattle.table.proofs.Theorems.Unique.{Twice, one-answer2}
+use Rattle.table.proofs.Theorems.Unique.{one-answer2}
 use Rattle.vector.specs.declared.Vector.{Vector}
 use Rattle.vector.specs.Seen.{state}
 use Rattle.pairs.specs.declared.vectors.Both.{Both}

@@ -1,17 +1,22 @@
--- One answer: any two results that meet a call's generated contract on the same arguments are the same, and so are the contents of its slots
+-- One answer: any two results that meet a function's generated contract on the same arguments are the same, and so are the contents of its slots
 -- that they come with.
 use Prim.Native.Nat.{ℕ}
-use mathlib.Core.Path.{_≡_, refl}
+use mathlib.Core.Path.{_≡_, refl, sym, _∙_}
 use mathlib.Core.List.{List}
 use contract.Lifetimes.{Lfts}
 use denote.Ref.{now}
+use Rattle.slots.proofs.Twice.{Twice}
 use Rattle.table.specs.Calls.{Call, Making}
 use Rattle.table.specs.Does.{Outcome}
-use Rattle.table.proofs.Theorems.Unique.{Twice, one-answer}
+use Rattle.table.proofs.Theorems.Unique.{one-answer}
 use Rattle.ring.specs.declared.Ring.{Ring}
 use Rattle.ring.specs.declared.Answer.{Answer}
 use Rattle.ring.specs.Seen.{seen, Meets, Makes, state, says}
 use Rattle.ring.proofs.Ring as fn
+use Rattle.ring.proofs.state as state·fn
+use Rattle.ring.proofs.refused as refused·fn
+use Rattle.ring.proofs.shows as shows·fn
+use Rattle.ring.proofs.done as done·fn
 
 -- an answer is told by what is seen of it
 told-by : (o : Outcome) (r r′ : Answer) (s s′ : List ℕ) → seen r s ≡ o → seen r′ s′ ≡ o → (r ≡ r′) × (s ≡ s′)
@@ -71,3 +76,17 @@ module _ (κs : Lfts 1) where
 
   pub clear-once : Twice fn.clear.ended κs (fn.clear.Reads.Learnt κs) (λ r e r′ e′. (r ≡ r′) × (now (e .1 .0) ≡ now (e′ .1 .0)))
   clear-once a r r′ e e′ p q = one r r′ _ _ p q
+
+-- The functions that put a state or an answer together name the very value.
+module _ (κs : Lfts 0) where
+  pub state-once : Twice state·fn.ended κs (state·fn.Reads.Learnt κs) (λ r e r′ e′. r ≡ r′)
+  state-once a r r′ e e′ p q = p ∙ sym q
+
+  pub refused-once : Twice refused·fn.ended κs (refused·fn.Reads.Learnt κs) (λ r e r′ e′. r ≡ r′)
+  refused-once a r r′ e e′ p q = p ∙ sym q
+
+  pub shows-once : Twice shows·fn.ended κs (shows·fn.Reads.Learnt κs) (λ r e r′ e′. r ≡ r′)
+  shows-once a r r′ e e′ p q = p ∙ sym q
+
+  pub done-once : Twice done·fn.ended κs (done·fn.Reads.Learnt κs) (λ r e r′ e′. r ≡ r′)
+  done-once a r r′ e e′ p q = p ∙ sym q

@@ -1,6 +1,6 @@
 -- What a comparison by parts tells: two lists agree entry by entry, and a ring's entries stand in one part of its slots or in two that meet at
 -- slot 0.
-use mathlib.Core.Path.{_≡_, sym, ap, _∙_}
+use mathlib.Core.Path.{_≡_, refl, sym, ap, _∙_}
 use mathlib.Core.Bool.{Bool, true, false}
 use mathlib.Core.List.{List, _++_}
 use mathlib.Core.Logic.{⊎-elim}
@@ -20,6 +20,13 @@ tells-yes l l2 e = record { yes = λ t. e; no = λ f. absurd (let z : _≡_ {A =
 
 tells-no : (l l2 : List ℕ) → (l ≡ l2 → ⊥) → Tells false l l2
 tells-no l l2 ne = record { yes = λ t. cc; no = λ f. ne }
+
+-- A comparison tells one thing.
+pub one-tells : (b b′ : Bool) (l l2 : List ℕ) → Tells b l l2 → Tells b′ l l2 → b ≡ b′
+one-tells true true l l2 m m′ = refl
+one-tells true false l l2 m m′ = absurd (m′ .no refl (m .yes refl))
+one-tells false true l l2 m m′ = absurd (m .no refl (m′ .yes refl))
+one-tells false false l l2 m m′ = refl
 
 -- The three ends of a comparison, as a proof finds them.
 pub tells-long : (l l2 : List ℕ) → (length l ≡ length l2 → ⊥) → Tells false l l2

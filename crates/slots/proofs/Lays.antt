@@ -14,6 +14,7 @@ use Rattle.slots.specs.Copy.{Laid}
 use Rattle.slots.proofs.Words.{below?}
 use Rattle.slots.proofs.Placing.{Placing, off-run, placing, seen, unseen, slot-inside, slot-slot, length-entries, entry}
 use Rattle.slots.proofs.Relaid.{laid}
+use Rattle.slots.proofs.Shifts.{at-each}
 use Rattle.slots.proofs.Runs.{slot-run, slot-wraps}
 
 pub lay-none : (place : ℕ → ℕ) (at : ℕ) (s old : List ℕ) → Laid place at 0 s old old
@@ -204,6 +205,19 @@ pub lay-rest : (place : ℕ → ℕ) (at n i : ℕ) (s old new : List ℕ) → n
     → Laid place at (n - i) (drop i (entries itself n s)) old new
 lay-rest place at n i s old new fits le m =
     rw (take-all (n - i) (drop i (entries itself n s)) (simp (length-drop, length-entries) (omega arith))) at (lay-part place at n i (n - i) s old new fits (omega arith) m)
+
+-- Laying leaves one content of the slots.
+pub one-lay : (place pos : ℕ → ℕ) (at count : ℕ) (s old a b : List ℕ) → Placing (length old) place pos → Laid place at count s old a → Laid place at count s old b → a ≡ b
+one-lay place pos at count s old a b p m m′ =
+    at-each place pos (length old) a b p (m .long) (m′ .long) (λ j l.
+    ⊎-elim
+    (λ low. m .low j low ∙ sym (m′ .low j low))
+    (λ (ge : at ≤ j).
+    ⊎-elim
+    (λ (lt : j < at + count). let e : j ≡ at + (j - at) = omega arith in rw e (m .held (j - at) (omega arith) ∙ sym (m′ .held (j - at) (omega arith))))
+    (λ high. m .high j high l ∙ sym (m′ .high j high l))
+    (below? j (at + count)))
+    (below? j at))
 
 -- The list joined with s.
 pub relaid-append : (place pos : ℕ → ℕ) (n count : ℕ) (s slots out : List ℕ) → Placing (length slots) place pos → length s ≡ count → n + count ≤ length slots

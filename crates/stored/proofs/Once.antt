@@ -4,8 +4,7 @@ use mathlib.Core.List.{List}
 use Prim.Native.Nat.{ℕ}
 use contract.Lifetimes.{Lfts}
 use denote.Ref.{now}
-use denote.Triple.Clauses.{AtExit}
-use borrow.Fn.World.{ArgsD, ResD}
+use Rattle.slots.proofs.Twice.{Twice}
 use Rattle.ring.specs.declared.Answer as ringAnswer
 use Rattle.ring.specs.Seen as rings
 use Rattle.vector.specs.declared.Answer as vectorAnswer
@@ -33,10 +32,8 @@ abbrev vectorBack : Written → vectorAnswer.Answer
 vectorBack w = vectors.says (w .outcome .number) (w .outcome .value) (w .outcome .moves) (vectors.state (w .outcome .tray .len))
 
 module _ (κs : Lfts 2) where
-  pub ring-text-once : (a : ArgsD ring-text·fn.signature κs) (r r′ : ResD ring-text·fn.signature κs) (e e′ : AtExit ring-text·fn.ended κs)
-      → ring-text·reads.Learnt κs a r e → ring-text·reads.Learnt κs a r′ e′ → (r ≡ r′) × (now (e .1 .1 .0) ≡ now (e′ .1 .1 .0))
+  pub ring-text-once : Twice ring-text·fn.ended κs (ring-text·reads.Learnt κs) (λ r e r′ e′. (r ≡ r′) × (now (e .1 .1 .0) ≡ now (e′ .1 .1 .0)))
   ring-text-once a r r′ e e′ p q = one (λ r text. seenRing r (now (a .1 .0)) text) ringBack (λ r text. refl) (λ r text. refl) _ r r′ _ _ (p .row) (q .row)
 
-  pub vector-text-once : (a : ArgsD vector-text·fn.signature κs) (r r′ : ResD vector-text·fn.signature κs) (e e′ : AtExit vector-text·fn.ended κs)
-      → vector-text·reads.Learnt κs a r e → vector-text·reads.Learnt κs a r′ e′ → (r ≡ r′) × (now (e .1 .1 .0) ≡ now (e′ .1 .1 .0))
+  pub vector-text-once : Twice vector-text·fn.ended κs (vector-text·reads.Learnt κs) (λ r e r′ e′. (r ≡ r′) × (now (e .1 .1 .0) ≡ now (e′ .1 .1 .0)))
   vector-text-once a r r′ e e′ p q = one (λ r text. seenVector r (now (a .1 .0)) text) vectorBack (λ r text. refl) (λ r text. refl) _ r r′ _ _ (p .row) (q .row)

@@ -3,8 +3,7 @@
 use mathlib.Core.Path.{_≡_, refl, sym, ap, _∙_}
 use contract.Lifetimes.{Lfts}
 use denote.Ref.{now}
-use denote.Triple.Clauses.{AtExit}
-use borrow.Fn.World.{ArgsD, ResD}
+use Rattle.slots.proofs.Twice.{Twice}
 use Rattle.table.specs.Tray.{Tray}
 use Rattle.table.specs.Does.{Outcome2}
 use Rattle.table.specs.World.{World, at}
@@ -39,48 +38,39 @@ stateOf m = record { trays = traysOf (m .world); line = m .line .bytes; count = 
 
 -- In what follows a are the arguments, r and r′ are results, and e and e′ the arguments as they are at the return.
 module _ (κs : Lfts 0) where
-  pub start-once : (a : ArgsD acts·fn.start.signature κs) (r r′ : ResD acts·fn.start.signature κs) (e e′ : AtExit acts·fn.start.ended κs)
-      → acts·fn.start.Reads.Learnt κs a r e → acts·fn.start.Reads.Learnt κs a r′ e′ → r ≡ r′
+  pub start-once : Twice acts·fn.start.ended κs (acts·fn.start.Reads.Learnt κs) (λ r e r′ e′. r ≡ r′)
   start-once a r r′ e e′ p q = once world traysOf (λ t. refl) _ r r′ p q
 
-  pub on-ring-once : (a : ArgsD acts·fn.on_ring.signature κs) (r r′ : ResD acts·fn.on_ring.signature κs) (e e′ : AtExit acts·fn.on_ring.ended κs)
-      → acts·fn.on_ring.Reads.Learnt κs a r e → acts·fn.on_ring.Reads.Learnt κs a r′ e′ → r ≡ r′
+  pub on-ring-once : Twice acts·fn.on_ring.ended κs (acts·fn.on_ring.Reads.Learnt κs) (λ r e r′ e′. r ≡ r′)
   on-ring-once a r r′ e e′ p q =
       once ringsSeen
       (λ (o : Outcome2). record { number = o .number; value = o .value; moves = o .moves; me = ringOf (o .first); other = ringOf (o .second) })
       (λ d. refl) _ r r′ p q
 
-  pub on-vector-once : (a : ArgsD acts·fn.on_vector.signature κs) (r r′ : ResD acts·fn.on_vector.signature κs) (e e′ : AtExit acts·fn.on_vector.ended κs)
-      → acts·fn.on_vector.Reads.Learnt κs a r e → acts·fn.on_vector.Reads.Learnt κs a r′ e′ → r ≡ r′
+  pub on-vector-once : Twice acts·fn.on_vector.ended κs (acts·fn.on_vector.Reads.Learnt κs) (λ r e r′ e′. r ≡ r′)
   on-vector-once a r r′ e e′ p q =
       once vectorsSeen
       (λ (o : Outcome2). record { number = o .number; value = o .value; moves = o .moves; me = vectorOf (o .first); other = vectorOf (o .second) })
       (λ d. refl) _ r r′ p q
 
-  pub act-once : (a : ArgsD acts·fn.act.signature κs) (r r′ : ResD acts·fn.act.signature κs) (e e′ : AtExit acts·fn.act.ended κs)
-      → acts·fn.act.Reads.Learnt κs a r e → acts·fn.act.Reads.Learnt κs a r′ e′ → r ≡ r′
+  pub act-once : Twice acts·fn.act.ended κs (acts·fn.act.Reads.Learnt κs) (λ r e r′ e′. r ≡ r′)
   act-once a r r′ e e′ p q = once actedSeen (λ (x : Acts). record { trays = traysOf (x .world); answer = x .answer }) (λ d. refl) _ r r′ p q
 
-  pub fresh-once : (a : ArgsD feeds·fn.fresh.signature κs) (r r′ : ResD feeds·fn.fresh.signature κs) (e e′ : AtExit feeds·fn.fresh.ended κs)
-      → feeds·fn.fresh.Reads.Learnt κs a r e → feeds·fn.fresh.Reads.Learnt κs a r′ e′ → r ≡ r′
+  pub fresh-once : Twice feeds·fn.fresh.ended κs (feeds·fn.fresh.Reads.Learnt κs) (λ r e r′ e′. r ≡ r′)
   fresh-once a r r′ e e′ p q = once midway stateOf (λ s. refl) _ r r′ p q
 
-  pub ended-once : (a : ArgsD feeds·fn.ended.signature κs) (r r′ : ResD feeds·fn.ended.signature κs) (e e′ : AtExit feeds·fn.ended.ended κs)
-      → feeds·fn.ended.Reads.Learnt κs a r e → feeds·fn.ended.Reads.Learnt κs a r′ e′ → r ≡ r′
+  pub ended-once : Twice feeds·fn.ended.ended κs (feeds·fn.ended.Reads.Learnt κs) (λ r e r′ e′. r ≡ r′)
   ended-once a r r′ e e′ p q = once endedSeen (λ (x : Ends). record { trays = traysOf (x .world); text = x .text; count = x .count }) (λ s. refl) _ r r′ p q
 
 module _ (κs : Lfts 1) where
-  pub parse-once : (a : ArgsD lines·fn.parse.signature κs) (r r′ : ResD lines·fn.parse.signature κs) (e e′ : AtExit lines·fn.parse.ended κs)
-      → lines·fn.parse.Reads.Learnt κs a r e → lines·fn.parse.Reads.Learnt κs a r′ e′ → r ≡ r′
+  pub parse-once : Twice lines·fn.parse.ended κs (lines·fn.parse.Reads.Learnt κs) (λ r e r′ e′. r ≡ r′)
   parse-once a r r′ e e′ p q = p ∙ sym q
 
-  pub tell-once : (a : ArgsD answers·fn.tell.signature κs) (r r′ : ResD answers·fn.tell.signature κs) (e e′ : AtExit answers·fn.tell.ended κs)
-      → answers·fn.tell.Reads.Learnt κs a r e → answers·fn.tell.Reads.Learnt κs a r′ e′ → r ≡ r′
+  pub tell-once : Twice answers·fn.tell.ended κs (answers·fn.tell.Reads.Learnt κs) (λ r e r′ e′. r ≡ r′)
   tell-once a r r′ e e′ p q = once toldSeen (λ (x : Tells). record { trays = traysOf (x .world); text = x .text }) (λ t. refl) _ r r′ p q
 
 module _ (κs : Lfts 2) where
-  pub feed-once : (a : ArgsD feeds·fn.feed.signature κs) (r r′ : ResD feeds·fn.feed.signature κs) (e e′ : AtExit feeds·fn.feed.ended κs)
-      → feeds·fn.feed.Reads.Learnt κs a r e → feeds·fn.feed.Reads.Learnt κs a r′ e′ → (r ≡ r′) × (now (e .1 .1 .0) ≡ now (e′ .1 .1 .0))
+  pub feed-once : Twice feeds·fn.feed.ended κs (feeds·fn.feed.Reads.Learnt κs) (λ r e r′ e′. (r ≡ r′) × (now (e .1 .1 .0) ≡ now (e′ .1 .1 .0)))
   feed-once a r r′ e e′ p q = (
     ap (λ (x : Fills). record { state = stateOf (x .state); took = x .took; count = x .count }) (p ∙ sym q),
     ap (λ (x : Fills). x .out) (p ∙ sym q),

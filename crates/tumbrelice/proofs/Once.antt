@@ -6,9 +6,9 @@ use mathlib.Core.Path.{_≡_, sym, ap, _∙_}
 use contract.Lifetimes.{Lfts}
 use denote.Ref.{now}
 use Rattle.slots.specs.Layout.{Kind}
+use Rattle.slots.proofs.Twice.{Twice}
 use Rattle.table.specs.Tray.{Tray, Cursor}
 use Rattle.table.specs.Calls.{Call, Call2, Look}
-use Rattle.table.proofs.Theorems.Unique.{Twice}
 use Rattle.tumbrelice.specs.Heard.{valueIn, freeIn, movesIn, numberIn, Hears, HearsAt, Hears2, ringOf, vectorOf, cursorOf}
 use Rattle.tumbrelice.proofs.rings as rings
 use Rattle.tumbrelice.proofs.vectors as vectors

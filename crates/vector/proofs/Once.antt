@@ -1,17 +1,22 @@
 -- Each promise of this crate leaves one result: two that both meet it, with the slots as each leaves them, are the same.
 use Prim.Native.Nat.{ℕ}
-use mathlib.Core.Path.{_≡_, refl}
+use mathlib.Core.Path.{_≡_, refl, sym, _∙_}
 use mathlib.Core.List.{List}
 use contract.Lifetimes.{Lfts}
 use denote.Ref.{ptr, now}
+use Rattle.slots.proofs.Twice.{Twice}
 use Rattle.table.specs.Calls.{Call, Making}
 use Rattle.table.specs.Does.{Outcome}
-use Rattle.table.proofs.Theorems.Unique.{Twice, one-answer}
+use Rattle.table.proofs.Theorems.Unique.{one-answer}
 use Rattle.vector.specs.declared.Vector.{Vector}
 use Rattle.vector.specs.declared.Answer.{Answer}
 use Rattle.vector.specs.Seen.{seen, Meets, Makes, state, says}
 use Rattle.table.proofs.Laws.Lending.{one-part}
 use Rattle.vector.proofs.Vector as fns
+use Rattle.vector.proofs.state as state·fn
+use Rattle.vector.proofs.refused as refused·fn
+use Rattle.vector.proofs.shows as shows·fn
+use Rattle.vector.proofs.done as done·fn
 
 -- an answer is told by what is seen of it
 told-by : (o : Outcome) (r r′ : Answer) (s s′ : List ℕ) → seen r s ≡ o → seen r′ s′ ≡ o → (r ≡ r′) × (s ≡ s′)
@@ -103,3 +108,17 @@ module _ (κs : Lfts 1) where
 module _ (κs : Lfts 2) where
   pub extend-from-slice-once : Twice fns.extend_from_slice.ended κs (fns.extend_from_slice.Reads.Learnt κs) (λ r e r′ e′. (r ≡ r′) × (now (e .1 .0) ≡ now (e′ .1 .0)))
   extend-from-slice-once a r r′ e e′ = one r r′ _ _
+
+-- The functions that put a state or an answer together name the very value.
+module _ (κs : Lfts 0) where
+  pub state-once : Twice state·fn.ended κs (state·fn.Reads.Learnt κs) (λ r e r′ e′. r ≡ r′)
+  state-once a r r′ e e′ p q = p ∙ sym q
+
+  pub refused-once : Twice refused·fn.ended κs (refused·fn.Reads.Learnt κs) (λ r e r′ e′. r ≡ r′)
+  refused-once a r r′ e e′ p q = p ∙ sym q
+
+  pub shows-once : Twice shows·fn.ended κs (shows·fn.Reads.Learnt κs) (λ r e r′ e′. r ≡ r′)
+  shows-once a r r′ e e′ p q = p ∙ sym q
+
+  pub done-once : Twice done·fn.ended κs (done·fn.Reads.Learnt κs) (λ r e r′ e′. r ≡ r′)
+  done-once a r r′ e e′ p q = p ∙ sym q

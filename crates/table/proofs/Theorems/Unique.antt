@@ -4,9 +4,6 @@ use mathlib.Core.Bool.{true}
 use mathlib.Core.List.{List, [], _∷_}
 use Prim.Native.Nat.{ℕ, _+_, _<_}
 use lib.ListN.{length}
-use contract.Lifetimes.{Lfts}
-use denote.Triple.Clauses.{Ended, AtExit}
-use borrow.Fn.World.{ArgsD, ResD}
 use Rattle.table.specs.Does.{Outcome, Outcome2, does, does2, made}
 use Rattle.slots.specs.Layout.{Kind}
 use Rattle.table.specs.Calls.{Call, Call2, Making, has, has2, hasMaking}
@@ -14,12 +11,6 @@ use Rattle.table.specs.Ledger.{entered, handed, dropped}
 use Rattle.table.specs.World.{World, Event, arrived, called, calledTwo, make, on, onTwo, at, Ours, step, AllOurs, run, lines, standingAll}
 use Rattle.table.proofs.Laws.Keeps.{call-kept, two-kept, made-arrives}
 use Rattle.table.proofs.Theorems.Demand3.{demand-3}
-
--- two results, and what is seen at exit with each, that both meet the promise of one function for the same arguments
-abbrev pub Twice : (f : Ended) (κs : Lfts (f .signature .lifetimes)) (learnt : ArgsD (f .signature) κs → ResD (f .signature) κs → AtExit f κs → Type 0)
-    (same : ResD (f .signature) κs → AtExit f κs → ResD (f .signature) κs → AtExit f κs → Type 0) → Type 0
-Twice f κs learnt same =
-    (a : ArgsD (f .signature) κs) (r r′ : ResD (f .signature) κs) (e e′ : AtExit f κs) → learnt a r e → learnt a r′ e′ → same r e r′ e′
 
 -- For any type A of answers whose fields an outcome shows: `answer` reads the answer back, and what was read is what was seen.
 pub one-answer : {A : Type 0} (seen : A → List ℕ → Outcome) (answer : Outcome → A) → ((a : A) (s : List ℕ) → answer (seen a s) ≡ a)

@@ -1,0 +1,2 @@
+-- That each promise leaves one result.
+pub mod Once

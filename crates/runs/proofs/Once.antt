@@ -1,0 +1,67 @@
+-- One result: any two that meet a function's generated contract on the same arguments are the same, and so are the contents of the slots that they
+-- leave. No `requires` is leaned on, since a ring's positions are a placing whatever the head.
+use Prim.Native.Nat.{ℕ}
+use native.Mathlib.Omega.{arith}
+use mathlib.Core.Path.{_≡_, sym, _∙_}
+use contract.Lifetimes.{Lfts}
+use denote.Ref.{now}
+use Rattle.slots.specs.Layout.{vector, itself}
+use Rattle.slots.proofs.Placing.{Placing, placing, placing-any}
+use Rattle.slots.proofs.Shifts.{one-down, one-up}
+use Rattle.slots.proofs.Fills.{one-fill}
+use Rattle.slots.proofs.Lays.{one-lay}
+use Rattle.slots.proofs.Compares.{one-tells}
+use Rattle.slots.proofs.Twice.{Twice}
+use Rattle.runs.proofs.word as word·fn
+use Rattle.runs.proofs.run_down as run-down·fn
+use Rattle.runs.proofs.run_up as run-up·fn
+use Rattle.runs.proofs.run_fill as run-fill·fn
+use Rattle.runs.proofs.shift_down as shift-down·fn
+use Rattle.runs.proofs.shift_up as shift-up·fn
+use Rattle.runs.proofs.fill as fill·fn
+use Rattle.runs.proofs.copy as copy·fn
+use Rattle.runs.proofs.compare as compare·fn
+
+-- the positions of a run of slots
+plain : (c : ℕ) → Placing c itself itself
+plain c = placing vector c 0 (omega arith)
+
+-- In what follows a are the arguments, r and r′ are results, and e and e′ the arguments as they are at the return.
+module _ (κs : Lfts 0) where
+  pub word-once : Twice word·fn.ended κs (word·fn.Reads.Learnt κs) (λ r e r′ e′. r ≡ r′)
+  word-once a r r′ e e′ p q = p ∙ sym q
+
+module _ (κs : Lfts 1) where
+  pub run-down-once : Twice run-down·fn.ended κs (run-down·fn.Reads.Learnt κs) (λ r e r′ e′. now (e .0) ≡ now (e′ .0))
+  run-down-once a r r′ e e′ = one-down _ _ _ _ _ _ _ (plain _)
+
+  pub run-up-once : Twice run-up·fn.ended κs (run-up·fn.Reads.Learnt κs) (λ r e r′ e′. now (e .0) ≡ now (e′ .0))
+  run-up-once a r r′ e e′ = one-up _ _ _ _ _ _ _ (plain _)
+
+  pub run-fill-once : Twice run-fill·fn.ended κs (run-fill·fn.Reads.Learnt κs) (λ r e r′ e′. now (e .0) ≡ now (e′ .0))
+  run-fill-once a r r′ e e′ = one-fill _ _ _ _ _ _ _ _ (plain _)
+
+  pub shift-down-once : Twice shift-down·fn.ended κs (shift-down·fn.Reads.Learnt κs) (λ r e r′ e′. now (e .0) ≡ now (e′ .0))
+  shift-down-once a r r′ e e′ = one-down _ _ _ _ _ _ _ (placing-any _ _)
+
+  pub shift-up-once : Twice shift-up·fn.ended κs (shift-up·fn.Reads.Learnt κs) (λ r e r′ e′. now (e .0) ≡ now (e′ .0))
+  shift-up-once a r r′ e e′ = one-up _ _ _ _ _ _ _ (placing-any _ _)
+
+  pub fill-once : Twice fill·fn.ended κs (fill·fn.Reads.Learnt κs) (λ r e r′ e′. now (e .0) ≡ now (e′ .0))
+  fill-once a r r′ e e′ = one-fill _ _ _ _ _ _ _ _ (placing-any _ _)
+
+module _ (κs : Lfts 2) where
+  pub run-copy-once : Twice copy·fn.run_copy.ended κs (copy·fn.run_copy.Reads.Learnt κs) (λ r e r′ e′. now (e .0) ≡ now (e′ .0))
+  run-copy-once a r r′ e e′ = one-lay _ _ _ _ _ _ _ _ (plain _)
+
+  pub lay-once : Twice copy·fn.lay.ended κs (copy·fn.lay.Reads.Learnt κs) (λ r e r′ e′. now (e .0) ≡ now (e′ .0))
+  lay-once a r r′ e e′ = one-lay _ _ _ _ _ _ _ _ (placing-any _ _)
+
+  pub carry-once : Twice copy·fn.carry.ended κs (copy·fn.carry.Reads.Learnt κs) (λ r e r′ e′. now (e .0) ≡ now (e′ .0))
+  carry-once a r r′ e e′ = one-lay _ _ _ _ _ _ _ _ (placing-any _ _)
+
+  pub parts-once : Twice compare·fn.parts.ended κs (compare·fn.parts.Reads.Learnt κs) (λ r e r′ e′. r ≡ r′)
+  parts-once a r r′ e e′ = one-tells r r′ _ _
+
+  pub rings-once : Twice compare·fn.rings.ended κs (compare·fn.rings.Reads.Learnt κs) (λ r e r′ e′. r ≡ r′)
+  rings-once a r r′ e e′ = one-tells r r′ _ _

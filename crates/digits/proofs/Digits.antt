@@ -2,15 +2,15 @@
 use mathlib.Core.Path.{_≡_, refl, sym, ap, _∙_}
 use mathlib.Core.Bool.{Bool, true, false, not, _&&_, _||_}
 use mathlib.Core.List.{List, [], _∷_}
-use Prim.Native.Nat.{ℕ, zero, suc, _+_, _-_, _*_, _^_, _≤_, _<_}
-use native.Mathlib.Nat.{not-suc-le-zero, le-of-suc-le-suc, pow-suc, pow-le-pow-right}
+use Prim.Native.Nat.{ℕ, _+_, _*_, _^_, _≤_, _<_}
+use native.Mathlib.Nat.{pow-suc, pow-le-pow-right}
 use native.Mathlib.Numerals.{add-one}
 use native.Mathlib.Omega.{arith}
-use borrow.Author.Tests.{leb-true, ltb-true, not-true, not-false}
+use borrow.Author.Tests.{leb-true, ltb-true, not-true, not-false, le-leb, lt-leb}
 use lib.Dec.{leb, ltb}
 use lib.ListN.{length, getD, drop, drop-of-length-le}
 use lib.Seq.{drop-cons}
-use Rattle.digits.specs.Hex.{isDigit, areDigits, worth, saysFrom}
+use Rattle.digits.specs.Hex.{isDigit, areDigits, worth, saysFrom, says, numberIn}
 
 -- what is left from i on: one byte, and what is left from i + 1 on
 left : (s : List ℕ) (i : ℕ) → i < length s → drop i s ≡ getD s i 0 ∷ drop (i + 1) s
@@ -19,12 +19,15 @@ left s i h = rw (add-one, drop-cons s i 0)
 none-left : (s : List ℕ) (i : ℕ) → length s ≤ i → drop i s ≡ []
 none-left s i h = drop-of-length-le s {i = i} h
 
+-- what the code's test of a byte tells
+pub is-digit : (b : ℕ) (d : Bool) → d ≡ not (isDigit b) → d ≡ false → isDigit b ≡ true
+is-digit b d e good = not-false _ (sym e ∙ good)
+
 -- of a loop that tests byte after byte: it goes on, stops at a byte that is no digit, or ends
 pub digits-turn : (s : List ℕ) (i : ℕ) (v d : Bool) → areDigits (drop i s) ≡ v → i < length s → d ≡ not (isDigit (getD s i 0)) → d ≡ false
     → areDigits (drop (i + 1) s) ≡ v
 digits-turn s i v d is h e good =
-    let yes : isDigit (getD s i 0) ≡ true = not-false _ (sym e ∙ good) in
-    sym (ap areDigits (left s i h) ∙ rw yes refl) ∙ is
+    sym (ap areDigits (left s i h) ∙ rw (is-digit (getD s i 0) d e good) refl) ∙ is
 
 pub digits-stop : (s : List ℕ) (i : ℕ) (v d : Bool) → areDigits (drop i s) ≡ v → i < length s → d ≡ not (isDigit (getD s i 0)) → d ≡ true → false ≡ v
 digits-stop s i v d is h e bad =
@@ -34,19 +37,14 @@ digits-stop s i v d is h e bad =
 pub digits-end : (s : List ℕ) (i : ℕ) (v : Bool) → areDigits (drop i s) ≡ v → length s ≤ i → true ≡ v
 digits-end s i v is h = sym (ap areDigits (none-left s i h)) ∙ is
 
--- each byte of a run of digits is one
-and-left : (a b : Bool) → a && b ≡ true → a ≡ true
+-- the two halves of a test that holds
+pub and-left : (a b : Bool) → a && b ≡ true → a ≡ true
 and-left true b e = refl
 and-left false b e = e
 
-and-right : (a b : Bool) → a && b ≡ true → b ≡ true
+pub and-right : (a b : Bool) → a && b ≡ true → b ≡ true
 and-right true b e = e
 and-right false b e = absurd (let z : _≡_ {A = ℕ} 0 1 = cc in omega arith)
-
-pub digit-at : (s : List ℕ) (i : ℕ) → areDigits s ≡ true → i < length s → isDigit (getD s i 0) ≡ true
-digit-at [] i e h = absurd (not-suc-le-zero h)
-digit-at (b ∷ s) zero e h = and-left _ _ e
-digit-at (b ∷ s) (suc i) e h = digit-at s i (and-right (isDigit b) _ e) (le-of-suc-le-suc h)
 
 -- the two ranges of a digit
 pub record Range (b : ℕ) : Type 0 where
@@ -73,6 +71,19 @@ says-turn s i x w v is h e = rw e (sym (ap (saysFrom x) (left s i h))) ∙ is
 pub says-end : (s : List ℕ) (i x v : ℕ) → saysFrom x (drop i s) ≡ v → length s ≤ i → x ≡ v
 says-end s i x v is h = sym (ap (saysFrom x) (none-left s i h)) ∙ is
 
+-- the number of a part: what its digits say, or 0
+pub number-says : (s : List ℕ) (x : ℕ) → length s ≤ 16 → true ≡ areDigits s → x ≡ says s → x ≡ numberIn s
+unfolding numberIn
+number-says s x short all e = rw (le-leb _ _ short, ← all) e
+
+pub number-no-digit : (s : List ℕ) → length s ≤ 16 → false ≡ areDigits s → 0 ≡ numberIn s
+unfolding numberIn
+number-no-digit s short other = rw (le-leb _ _ short, ← other)
+
+pub number-too-long : (s : List ℕ) → 16 < length s → 0 ≡ numberIn s
+unfolding numberIn
+number-too-long s long = rw (lt-leb _ _ long)
+
 -- i digits say less than 16 to the i
 pub grows : (i x w : ℕ) → x < 16 ^ i → w < 16 → x * 16 + w < 16 ^ (i + 1)
 grows i x w lx lw = rw (add-one, pow-suc) (omega arith)
@@ -85,6 +96,9 @@ fits i x w lx lw h =
 
 pub times-fits : (i x : ℕ) → x < 16 ^ i → i < 16 → x * 16 < 2 ^ 64
 times-fits i x lx h = omega (arith, fits i x 0 lx (omega arith) h)
+
+pub none-small : (n : ℕ) → 0 < 16 ^ n
+none-small n = let least : 0 ≤ n = omega arith in pow-le-pow-right {n = 16} (omega arith) least
 
 pub small-end : (i x n : ℕ) → x < 16 ^ i → i ≤ n → n ≤ i → x < 16 ^ n
 small-end i x n lx p q = let e : i ≡ n = omega arith in rw e at lx

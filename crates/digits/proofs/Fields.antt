@@ -1,19 +1,12 @@
--- The fields of a line: parts of a run of digits are digits, and a field is no longer than it was cut.
+-- The fields of a line: a part of a run of digits is digits, and one of sixteen at most says its number.
 use mathlib.Core.Path.{_≡_, refl, sym, _∙_}
-use mathlib.Core.Bool.{Bool, true, false, _&&_}
+use mathlib.Core.Bool.{true}
 use mathlib.Core.List.{List, [], _∷_}
 use Prim.Native.Nat.{ℕ, zero, suc, _≤_}
 use native.Mathlib.Omega.{arith}
 use lib.ListN.{length, take, drop, length-take}
-use Rattle.digits.specs.Hex.{isDigit, areDigits}
-
-and-left : (a b : Bool) → a && b ≡ true → a ≡ true
-and-left true b e = refl
-and-left false b e = e
-
-and-right : (a b : Bool) → a && b ≡ true → b ≡ true
-and-right true b e = e
-and-right false b e = let x : b ≡ true = cc in x
+use Rattle.digits.specs.Hex.{isDigit, areDigits, says, numberIn}
+use Rattle.digits.proofs.Digits.{and-left, and-right, number-says}
 
 digits-take : (k : ℕ) (s : List ℕ) → areDigits s ≡ true → areDigits (take k s) ≡ true
 digits-take zero s e = refl
@@ -25,9 +18,8 @@ digits-drop zero s e = e
 digits-drop (suc k) [] e = refl
 digits-drop (suc k) (b ∷ s) e = digits-drop k s (and-right (isDigit b) _ e)
 
--- a field of a line that was found to be digits
-pub field-digits : (k from : ℕ) (l : List ℕ) (b : Bool) → b ≡ areDigits l → b ≡ true → areDigits (take k (drop from l)) ≡ true
-field-digits k from l b e t = digits-take k (drop from l) (digits-drop from l (sym e ∙ t))
-
-pub field-short : (k from : ℕ) (l : List ℕ) → k ≤ 16 → length (take k (drop from l)) ≤ 16
-field-short k from l h = simp length-take (omega arith)
+-- a field of a line that is digits
+pub field-says : (from k : ℕ) (l : List ℕ) → areDigits l ≡ true → k ≤ 16 → (x : ℕ) → x ≡ numberIn (take k (drop from l)) → x ≡ says (take k (drop from l))
+field-says from k l all h x e =
+    let short : length (take k (drop from l)) ≤ 16 = simp length-take (omega arith) in
+    e ∙ sym (number-says (take k (drop from l)) _ short (sym (digits-take k (drop from l) (digits-drop from l all))) refl)

@@ -5,10 +5,11 @@ use Prim.Native.Nat.{ℕ, zero, suc, _+_, _-_, _/_, _%_, _≤_, _<_}
 use native.Mathlib.Nat.{not-suc-le-zero, le-of-suc-le-suc}
 use native.Mathlib.Numerals.{add-one}
 use native.Mathlib.Omega.{arith}
+use borrow.Author.Tests.{le-leb, lt-leb}
 use lib.ListN.{length, set, take, drop, length-set, length-append}
 use lib.Seq.{take-append-seam}
 use Rattle.digits.specs.Hex.{digit, hex}
-use Rattle.digits.specs.Put.{put}
+use Rattle.digits.specs.Put.{put, putWhole}
 
 pub length-put : (text : List ℕ) (at : ℕ) (s : List ℕ) → length (put text at s) ≡ length text
 unfolding put
@@ -48,6 +49,21 @@ pub length-hex : (n x : ℕ) → length (hex n x) ≡ n
 unfolding hex
 length-hex zero x = refl
 length-hex (suc n) x = length-append (hex n (x / 16)) _ ∙ omega (arith, length-hex n (x / 16))
+
+-- digits that the text has room for are put, and those that it has none for leave it
+pub put-fits : (text : List ℕ) (at n x : ℕ) → at + n ≤ length text → put text at (hex n x) ≡ putWhole text at (hex n x)
+unfolding putWhole
+put-fits text at n x h = rw (length-hex, le-leb _ _ h)
+
+pub put-stays : (text : List ℕ) (at n x : ℕ) → length text < at + n → text ≡ putWhole text at (hex n x)
+unfolding putWhole
+put-stays text at n x h = rw (length-hex, lt-leb _ _ h)
+
+-- digits put into a text that is known to have so many bytes: it has as many afterwards
+pub put-within : (m : ℕ) (text a : List ℕ) (at n x : ℕ) → m ≤ length text → a ≡ putWhole text at (hex n x) → at + n ≤ m → (a ≡ put text at (hex n x)) × (m ≤ length a)
+put-within m text a at n x long e h =
+    let is : a ≡ put text at (hex n x) = e ∙ sym (put-fits text at n x (omega arith)) in
+    (is, omega (arith, ap length is, length-put text at (hex n x)))
 
 -- what is put right after a run of n bytes, or after n digits
 pub put-after : (text s s2 : List ℕ) (at n k : ℕ) → length s ≡ n → at + n ≡ k → put (put text at s) k s2 ≡ put text at (s ++ s2)

@@ -3,6 +3,7 @@ use Prim.Native.Nat.{ℕ, zero, suc, _+_, _-_, _*_, _/_, _%_}
 use mathlib.Core.Bool.{Bool, true, cond, _&&_, _||_}
 use mathlib.Core.List.{List, [], _∷_, _++_}
 use lib.Dec.{ltb, leb}
+use lib.ListN.{length}
 
 -- the byte of a digit below 16: 0 to 9, then a to f
 abbrev pub digit : ℕ → ℕ
@@ -35,3 +36,7 @@ saysFrom x (b ∷ s) = saysFrom (x * 16 + worth b) s
 
 abbrev pub says : List ℕ → ℕ
 says s = saysFrom 0 s
+
+-- the number of 64 bits that a run says: digits, sixteen at most; anything else says 0
+unfoldable pub numberIn : List ℕ → ℕ
+numberIn s = cond (leb (length s) 16 && areDigits s) (says s) 0

@@ -1,10 +1,10 @@
 // Hexadecimal text: digits put into a lent text, and read back from one.
 ghost use mathlib.Core.Path.{_≡_};
-ghost use Prim.Native.Nat.{_+_, _^_, _≤_, _<_};
+ghost use Prim.Native.Nat.{_^_, _<_};
 ghost use mathlib.Core.Bool.{true, not};
 ghost use lib.ListN.{length};
-ghost use Rattle.digits.specs.Hex.{digit, hex, areDigits, says, isDigit, worth};
-ghost use Rattle.digits.specs.Put.{put};
+ghost use Rattle.digits.specs.Hex.{digit, hex, areDigits, isDigit, worth, numberIn};
+ghost use Rattle.digits.specs.Put.{putWhole};
 
 // The byte of a digit.
 fn digit(d: u8) -> u8
@@ -14,11 +14,17 @@ fn digit(d: u8) -> u8
     if d < 10 { 48 + d } else { 87 + d }
 }
 
-// The count digits that say x, from a place of the text on.
+// The count digits that say x, from a place of the text on. Where the text has no room for them all, it stays.
 pub fn put_hex(text: &mut [u8], at: usize, count: usize, x: u64)
-    requires { ⌜ at + count ≤ length (now text) ⌝ }
-    ensures { λ _. ⌜ now (text .exit) ≡ put (now (text .entry)) at (hex count x) ⌝ }
+    ensures { λ _. ⌜ now (text .exit) ≡ putWhole (now (text .entry)) at (hex count x) ⌝ }
 {
+    let room = text.len();
+    if room < at {
+        return;
+    }
+    if room - at < count {
+        return;
+    }
     let mut k = count;
     let mut rest = x;
     while 0 < k {
@@ -57,15 +63,21 @@ fn worth(b: u8) -> u64
     if b < 58 { b as u64 - 48 } else { b as u64 - 87 }
 }
 
-// What a part says, all of it digits and no more than a 64-bit number has.
+// What a part says. One that is no number of 64 bits, digits and sixteen at most, says 0.
 pub fn number(part: &[u8]) -> u64
-    requires { ⌜ (areDigits (now part) ≡ true) × (length (now part) ≤ 16) ⌝ }
-    ensures { λ r. ⌜ (r ≡ says (now (part .entry))) × (r < 16 ^ length (now (part .entry))) ⌝ }
+    ensures { λ r. ⌜ (r ≡ numberIn (now (part .entry))) × (r < 16 ^ length (now (part .entry))) ⌝ }
 {
+    if 16 < part.len() {
+        return 0;
+    }
     let mut x: u64 = 0;
     let mut i = 0;
     while i < part.len() {
-        x = x * 16 + worth(part[i]);
+        let b = part[i];
+        if no_digit(b) {
+            return 0;
+        }
+        x = x * 16 + worth(b);
         i += 1;
     }
     x

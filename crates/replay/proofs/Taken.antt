@@ -3,11 +3,13 @@ use mathlib.Core.Path.{_≡_, sym, ap, _∙_}
 use mathlib.Core.Bool.{Bool, true, false}
 use mathlib.Core.List.{List}
 use Prim.Native.Nat.{ℕ}
+use native.Mathlib.Omega.{arith}
 use borrow.Author.Tests.{eq-eqb, ne-eqb}
-use lib.ListN.{length}
-use Rattle.digits.specs.Hex.{areDigits}
+use lib.ListN.{length, take, drop}
+use Rattle.digits.specs.Hex.{areDigits, numberIn}
+use Rattle.digits.proofs.Fields.{field-says}
 use Rattle.replay.specs.declared.lines.Verdict.{Verdict}
-use Rattle.replay.specs.Lines.{isKnown, takesEntry, isBeyond, reaches, field, takes, isTaken}
+use Rattle.replay.specs.Lines.{isKnown, takesEntry, isBeyond, reaches, takes, isTaken}
 
 -- unknown, beyond, or taken
 module _ (op a b cap cap2 : ℕ) where
@@ -42,11 +44,13 @@ module _ (l : List ℕ) (cap cap2 : ℕ) where
   takes-no-digits b e d f = let no : areDigits l ≡ false = sym d ∙ f in rw (eq-eqb (length l) 34 e, no)
 
   pub takes-line : (f : Bool) (op a b : ℕ) (t : Bool) → length l ≡ 34 → f ≡ areDigits l → f ≡ true
-      → op ≡ field 0 2 l → a ≡ field 2 16 l → b ≡ field 18 16 l → t ≡ reaches op a b cap cap2 → t ≡ takes l cap cap2
+      → op ≡ numberIn (take 2 (drop 0 l)) → a ≡ numberIn (take 16 (drop 2 l)) → b ≡ numberIn (take 16 (drop 18 l))
+      → t ≡ reaches op a b cap cap2 → t ≡ takes l cap cap2
   unfolding takes
   takes-line f op a b t e d ef eo ea eb et =
       let is : areDigits l ≡ true = sym d ∙ ef in
-      rw (eq-eqb (length l) 34 e, is) (et ∙ cc (eo, ea, eb))
+      rw (eq-eqb (length l) 34 e, is)
+      (et ∙ cc (field-says 0 2 l is (omega arith) op eo, field-says 2 16 l is (omega arith) a ea, field-says 18 16 l is (omega arith) b eb))
 
 -- what is taken can be: where it can't, there is nothing to show
 pub only-taken : {A : Type 0} (x y : A) (v is : Verdict) (t : Bool) → isTaken v ≡ t → v ≡ is → isTaken is ≡ true → t ≡ false → x ≡ y

@@ -54,9 +54,6 @@ module _ (κs : Lfts 2) where
   pub run-copy-once : Twice copy·fn.run_copy.ended κs (copy·fn.run_copy.Reads.Learnt κs) (λ r e r′ e′. now (e .0) ≡ now (e′ .0))
   run-copy-once a r r′ e e′ = one-lay _ _ _ _ _ _ _ _ (plain _)
 
-  pub lay-once : Twice copy·fn.lay.ended κs (copy·fn.lay.Reads.Learnt κs) (λ r e r′ e′. now (e .0) ≡ now (e′ .0))
-  lay-once a r r′ e e′ = one-lay _ _ _ _ _ _ _ _ (placing-any _ _)
-
   pub carry-once : Twice copy·fn.carry.ended κs (copy·fn.carry.Reads.Learnt κs) (λ r e r′ e′. now (e .0) ≡ now (e′ .0))
   carry-once a r r′ e e′ = one-lay _ _ _ _ _ _ _ _ (placing-any _ _)
 

@@ -31,7 +31,7 @@ pub fn run_copy(slots: &mut [u32], at: usize, part: &[u32], count: usize)
 }
 
 // A ring's positions from at on take the first count numbers of the part: a run of slots, or one to the last slot and one from slot 0.
-pub fn lay(slots: &mut [u32], head: usize, at: usize, part: &[u32], count: usize)
+fn lay(slots: &mut [u32], head: usize, at: usize, part: &[u32], count: usize)
     requires { ⌜ Reach (length (now slots)) head at (at + count) × (count ≤ length (now part)) ⌝ }
     ensures { λ _. ⌜ Laid (slotOf (length (now (slots .entry))) head) at count (now (part .entry)) (now (slots .entry)) (now (slots .exit)) ⌝ }
 {

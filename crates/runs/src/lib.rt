@@ -7,13 +7,13 @@ ghost use Prim.Native.Nat.{_+_, _-_, _≤_, _<_};
 ghost use lib.ListN.{length};
 ghost use Rattle.slots.specs.Layout.{slotOf, itself};
 ghost use Rattle.slots.specs.Shift.{MovedDown, MovedUp, Filled, Span, Reach};
+ghost use Rattle.runs.specs.Width.{entryOf};
 
-// A count as an entry: whether it fits is asked here, and not of the callers, whatever an entry's width.
+// A count as an entry: its low 32 bits. Those that come here, lengths of a container and of its text, are smaller.
 pub fn word(n: usize) -> u32
-    requires { ⌜ n < 4294967296 ⌝ }
-    ensures { λ r. ⌜ r ≡ n ⌝ }
+    ensures { λ r. ⌜ r ≡ entryOf n ⌝ }
 {
-    n as u32
+    (n % 4294967296) as u32
 }
 
 // Each entry of a part takes the place of the one below, and the first is lost. Over the whole of a lent part LLVM makes one block move of it.

@@ -9,31 +9,36 @@ use lib.Seq.{drop-cons}
 use Rattle.slots.specs.Layout.{Kind}
 use Rattle.table.specs.Tray.{Tray, cap}
 use Rattle.digits.specs.Hex.{hex, lf}
-use Rattle.digits.specs.Put.{put}
-use Rattle.digits.proofs.Puts.{put-after, after-hex, put-ended, length-hex}
+use Rattle.digits.specs.Put.{put, putWhole}
+use Rattle.digits.proofs.Puts.{put-after, put-within, after-hex, put-ended, length-hex}
 use Rattle.stored.specs.Form.{headIn, kindByte, stateDigits, firstLine, slotLine, slotLines, form, size}
 
 -- the numbers of the first line, each where the one before it ends
-pub state-put : (text a b e : List ℕ) (cap head len : ℕ) → a ≡ put text 4 (hex 4 cap) → b ≡ put a 8 (hex 4 head) → e ≡ put b 12 (hex 4 len)
-    → set e 16 10 ≡ put text 4 (stateDigits cap head len)
+pub state-put : (text a b e : List ℕ) (cap head len : ℕ) → 17 ≤ length text → a ≡ putWhole text 4 (hex 4 cap) → b ≡ putWhole a 8 (hex 4 head)
+    → e ≡ putWhole b 12 (hex 4 len) → set e 16 10 ≡ put text 4 (stateDigits cap head len)
 unfolding stateDigits
-state-put text a b e cap head len ea eb ee =
+state-put text a b e cap head len long ea eb ee =
     let s2 : List ℕ = hex 4 len ++ (lf ∷ []) in
     let s1 : List ℕ = hex 4 head ++ s2 in
-    put-ended b e 12 4 len lf ee
-    ∙ ap (λ t. put t 12 s2) eb
+    let pa = put-within 17 text a 4 4 cap long ea (omega arith) in
+    let pb = put-within 17 a b 8 4 head (pa .1) eb (omega arith) in
+    let pe = put-within 17 b e 12 4 len (pb .1) ee (omega arith) in
+    put-ended b e 12 4 len lf (pe .0)
+    ∙ ap (λ t. put t 12 s2) (pb .0)
     ∙ after-hex a 8 4 head 12 s2 refl
-    ∙ ap (λ t. put t 8 s1) ea
+    ∙ ap (λ t. put t 8 s1) (pa .0)
     ∙ after-hex text 4 4 cap 8 s1 refl
 
-pub first-put : (text a b e : List ℕ) (kind cap head len : ℕ) → a ≡ put text 0 (hex 2 kind) → b ≡ put a 2 (hex 2 0) → e ≡ put b 4 (stateDigits cap head len)
-    → e ≡ put text 0 (firstLine kind cap head len)
+pub first-put : (text a b e : List ℕ) (kind cap head len : ℕ) → 17 ≤ length text → a ≡ putWhole text 0 (hex 2 kind) → b ≡ putWhole a 2 (hex 2 0)
+    → e ≡ put b 4 (stateDigits cap head len) → e ≡ put text 0 (firstLine kind cap head len)
 unfolding firstLine
-first-put text a b e kind cap head len ea eb ee =
+first-put text a b e kind cap head len long ea eb ee =
+    let pa = put-within 17 text a 0 2 kind long ea (omega arith) in
+    let pb = put-within 17 a b 2 2 0 (pa .1) eb (omega arith) in
     ee
-    ∙ ap (λ t. put t 4 (stateDigits cap head len)) eb
+    ∙ ap (λ t. put t 4 (stateDigits cap head len)) (pb .0)
     ∙ after-hex a 2 2 0 4 (stateDigits cap head len) refl
-    ∙ ap (λ t. put t 2 (hex 2 0 ++ stateDigits cap head len)) ea
+    ∙ ap (λ t. put t 2 (hex 2 0 ++ stateDigits cap head len)) (pa .0)
     ∙ after-hex text 0 2 kind 2 (hex 2 0 ++ stateDigits cap head len) refl
 
 length-slot-line : (x : ℕ) → length (slotLine x) ≡ 9
@@ -41,9 +46,9 @@ unfolding slotLine
 length-slot-line x = length-append (hex 8 x) (lf ∷ []) ∙ omega (arith, length-hex 8 x)
 
 -- a slot's digits and their end are its line
-pub line-put : (text mid : List ℕ) (at x : ℕ) → mid ≡ put text at (hex 8 x) → set mid (at + 8) 10 ≡ put text at (slotLine x)
+pub line-put : (text mid : List ℕ) (at x : ℕ) → at + 9 ≤ length text → mid ≡ putWhole text at (hex 8 x) → set mid (at + 8) 10 ≡ put text at (slotLine x)
 unfolding slotLine
-line-put text mid at x em = put-ended text mid at 8 x lf em
+line-put text mid at x long em = put-ended text mid at 8 x lf (put-within (at + 9) text mid at 8 x long em (omega arith) .0)
 
 -- one more slot's line
 pub slots-turn : (slots text mid all : List ℕ) (i at : ℕ) → put text at (slotLines (drop i slots)) ≡ all → i < length slots

@@ -1,17 +1,13 @@
 -- Each writer is an event of demand 3: it is one of our calls, and leaves every container as it was.
 use Prim.Native.Nat.{ℕ}
 use mathlib.Core.Path.{_≡_, refl, ap}
-use mathlib.Core.List.{List, [], _∷_}
-use lib.Dec.{ltb}
-use lib.ListN.{length}
+use mathlib.Core.List.{List}
 use contract.Lifetimes.{Lfts}
 use denote.Ref.{now}
 use denote.Triple.Clauses.{AtExit}
 use borrow.Fn.World.{ArgsD, ResD}
 use Rattle.slots.specs.Layout.{Kind, ring, vector}
-use Rattle.table.specs.Tray.{Tray, cap, invalid, nowhere}
-use Rattle.table.specs.Table.{firstInvalid, full}
-use Rattle.table.specs.Does.{gives, refused}
+use Rattle.table.specs.Tray.{Tray, cap}
 use Rattle.table.specs.Promise.{Kept}
 use Rattle.table.specs.World.{World, called, Ours}
 use Rattle.table.proofs.Laws.Refusals.{either}
@@ -21,8 +17,9 @@ use Rattle.digits.specs.Put.{put}
 use Rattle.ring.specs.Seen as rings
 use Rattle.vector.specs.Seen as vectors
 use Rattle.stored.specs.Form.{form, size}
-use Rattle.stored.specs.Written.{Written, writes}
+use Rattle.stored.specs.Written.{Written, refusalsText, writes}
 use Rattle.stored.specs.Storing.{storing}
+use Rattle.stored.proofs.Writes.{refusing, telling}
 use Rattle.stored.proofs.ring_text as ring-text·fn
 use Rattle.stored.proofs.ring_text.Reads as ring-text·reads
 use Rattle.stored.proofs.vector_text as vector-text·fn
@@ -31,12 +28,8 @@ use Rattle.stored.proofs.vector_text.Reads as vector-text·reads
 as-it-was : (k : Kind) (t : Tray) (text : List ℕ) → writes k t text .outcome .tray ≡ t
 unfolding writes
 as-it-was k t text =
-    either (λ (w : Written). w .outcome .tray ≡ t)
-    (λ number. record { outcome = refused t nowhere number; text = text })
-    ((invalid k t, firstInvalid) ∷ (ltb (length text) (size (cap t)), full) ∷ [])
-    (record { outcome = gives (size (cap t)) 0 (t .head) (t .len) (t .slots); text = put text 0 (form k t) })
-    (λ r. refl)
-    (λ clear. refl)
+    either (λ (w : Written). w .outcome .tray ≡ t) (λ m. refusing t m text) (refusalsText k t text) (telling t (size (cap t)) (put text 0 (form k t)))
+    (λ r. refl) (λ clear. refl)
 
 pub storing-kept : (text : List ℕ) → Kept (storing text)
 storing-kept text = showing-kept _ _ (λ k t. as-it-was k t text)

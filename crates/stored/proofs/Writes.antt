@@ -1,13 +1,17 @@
 -- The writer where it is done, for ring and vector at once, and what an answer of this crate is read as.
-use mathlib.Core.Path.{_≡_, ap}
-use mathlib.Core.Bool.{false}
+use mathlib.Core.Path.{_≡_, ap, _∙_}
+use mathlib.Core.Bool.{true, false}
 use mathlib.Core.List.{List}
-use Prim.Native.Nat.{ℕ, _≤_}
-use borrow.Author.Tests.{le-ltb}
+use Prim.Native.Nat.{ℕ, _%_, _≤_}
+use native.Mathlib.Nat.{mod-eq-of-lt}
+use native.Mathlib.Omega.{arith}
+use borrow.Author.Tests.{ltb-true, le-ltb}
+use lib.Dec.{ltb}
 use lib.ListN.{length}
-use Rattle.slots.specs.Layout.{Kind, ring, vector}
+use Rattle.slots.specs.Layout.{most, Kind, ring, vector}
 use Rattle.table.specs.Tray.{Tray, cap, invalid, nowhere}
 use Rattle.table.specs.Does.{gives, refused}
+use Rattle.table.proofs.Laws.Valid.{fit}
 use Rattle.table.proofs.Laws.Refusals
 use Rattle.digits.specs.Put.{put}
 use Rattle.ring.specs.declared.Ring.{Ring}
@@ -22,17 +26,21 @@ use Rattle.stored.specs.Seen.{seenRing, seenVector, RingStored, VectorSt
 use Rattle.stored.proofs.Lines.{form-put}
 
 -- what a refusal and a done call are seen as
-abbrev refusing : Tray → (number : ℕ) → List ℕ → Written
+abbrev pub refusing : Tray → (number : ℕ) → List ℕ → Written
 refusing t number text = record { outcome = refused t nowhere number; text = text }
 
-abbrev telling : Tray → (value : ℕ) → List ℕ → Written
+abbrev pub telling : Tray → (value : ℕ) → List ℕ → Written
 telling t value text = record { outcome = gives value 0 (t .head) (t .len) (t .slots); text = text }
 
-pub write-done : (k : Kind) (t : Tray) (text mid out : List ℕ) (w : Written) (value : ℕ) → invalid k t ≡ false → size (cap t) ≤ length text
+-- done; the value is the text's length, as one of the m numbers that an entry can be
+pub write-done : (k : Kind) (t : Tray) (text mid out : List ℕ) (w : Written) (value m : ℕ) → invalid k t ≡ false → size (cap t) ≤ length text
     → mid ≡ put text 0 (firstLine (kindByte k) (cap t) (headIn k (t .head)) (t .len)) → out ≡ put mid 17 (slotLines (t .slots))
-    → value ≡ size (cap t) → w ≡ telling t value out → w ≡ writes k t text
+    → value ≡ size (cap t) % m → ltb (size most) m ≡ true → w ≡ telling t value out → w ≡ writes k t text
 unfolding writes
-write-done k t text mid out w value ok room em eo ev ew = cc (ok, le-ltb _ _ room, ew, eo, ev, form-put k t text mid em)
+write-done k t text mid out w value m ok room em eo ev wide ew =
+    let f = fit k t ok in
+    let all : value ≡ size (cap t) = ev ∙ mod-eq-of-lt (omega (arith, ltb-true (size most) m wide)) in
+    cc (ok, le-ltb _ _ room, ew, eo, all, form-put k t text mid em)
 
 -- the rules of the promises and answers of this crate
 pub ring-stored : (r : Ring) (slots before : List ℕ) (a : ringAnswer.Answer) (text : List ℕ) → seenRing a slots text ≡ writes ring (rings.tray r slots) before
@@ -58,14 +66,14 @@ pub vector-told : (v : Vector) (slots text : List ℕ) (a : vectorAnswer.Answer)
 vector-told v slots text a value e = ap (λ a. seenVector a slots text) e
 
 -- a ring's and a vector's, with the numbers that the code has
-pub ring-write-done : (t : Tray) (text mid out : List ℕ) (w : Written) (value : ℕ) → invalid ring t ≡ false → size (cap t) ≤ length text
-    → mid ≡ put text 0 (firstLine 0 (cap t) (t .head) (t .len)) → out ≡ put mid 17 (slotLines (t .slots)) → value ≡ size (cap t)
-    → w ≡ telling t value out → w ≡ writes ring t text
+pub ring-write-done : (t : Tray) (text mid out : List ℕ) (w : Written) (value m : ℕ) → invalid ring t ≡ false → size (cap t) ≤ length text
+    → mid ≡ put text 0 (firstLine 0 (cap t) (t .head) (t .len)) → out ≡ put mid 17 (slotLines (t .slots)) → value ≡ size (cap t) % m
+    → ltb (size most) m ≡ true → w ≡ telling t value out → w ≡ writes ring t text
 ring-write-done = write-done ring
 
-pub vector-write-done : (t : Tray) (text mid out : List ℕ) (w : Written) (value : ℕ) → invalid vector t ≡ false → size (cap t) ≤ length text
-    → mid ≡ put text 0 (firstLine 1 (cap t) 0 (t .len)) → out ≡ put mid 17 (slotLines (t .slots)) → value ≡ size (cap t)
-    → w ≡ telling t value out → w ≡ writes vector t text
+pub vector-write-done : (t : Tray) (text mid out : List ℕ) (w : Written) (value m : ℕ) → invalid vector t ≡ false → size (cap t) ≤ length text
+    → mid ≡ put text 0 (firstLine 1 (cap t) 0 (t .len)) → out ≡ put mid 17 (slotLines (t .slots)) → value ≡ size (cap t) % m
+    → ltb (size most) m ≡ true → w ≡ telling t value out → w ≡ writes vector t text
 vector-write-done = write-done vector
 
 pub ruleset refusals = (ring-stored, vector-stored, ring-refused, vector-refused, Refusals.refusals)

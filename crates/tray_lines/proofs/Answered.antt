@@ -1,12 +1,12 @@
 -- The answer's line, put number by number, and its length; and what each thing that a line can say comes to.
 use mathlib.Core.Path.{_≡_, refl, sym, ap, _∙_}
 use mathlib.Core.List.{List, [], _∷_, _++_, append-nil}
-use Prim.Native.Nat.{ℕ, _+_}
+use Prim.Native.Nat.{ℕ, _+_, _≤_}
 use native.Mathlib.Omega.{arith}
 use lib.ListN.{length, set, replicate, length-append, drop-of-length-le}
 use Rattle.digits.specs.Hex.{hex, lf}
-use Rattle.digits.specs.Put.{put}
-use Rattle.digits.proofs.Puts.{after-hex, put-ended, put-start, length-hex}
+use Rattle.digits.specs.Put.{put, putWhole}
+use Rattle.digits.proofs.Puts.{put-within, after-hex, put-ended, put-start, length-hex}
 use Rattle.table.specs.World.{World}
 use Rattle.tray_lines.specs.declared.lines.Call.{Call}
 use Rattle.tray_lines.specs.declared.lines.Said.{Said}
@@ -26,22 +26,28 @@ pub all-of : (s text : List ℕ) → length s ≡ length text → put text 0 s �
 all-of s text e = put-start text s (omega arith) ∙ ap (λ (r : List ℕ). s ++ r) (drop-of-length-le text {i = length s} (omega arith)) ∙ append-nil s
 
 -- five numbers and the end, each put where the one before it ends
-pub line-put : (z a b c d e : List ℕ) (x : Answer) → z ≡ replicate 23 0 → a ≡ put z 0 (hex 2 (x .number)) → b ≡ put a 2 (hex 8 (x .value))
-    → c ≡ put b 10 (hex 4 (x .moves)) → d ≡ put c 14 (hex 4 (x .head)) → e ≡ put d 18 (hex 4 (x .len)) → set e 22 10 ≡ lineOf x
+pub line-put : (z a b c d e : List ℕ) (x : Answer) → z ≡ replicate 23 0 → a ≡ putWhole z 0 (hex 2 (x .number)) → b ≡ putWhole a 2 (hex 8 (x .value))
+    → c ≡ putWhole b 10 (hex 4 (x .moves)) → d ≡ putWhole c 14 (hex 4 (x .head)) → e ≡ putWhole d 18 (hex 4 (x .len)) → set e 22 10 ≡ lineOf x
 unfolding lineOf
 line-put z a b c d e x ez ea eb ec ed ee =
+    let long : 23 ≤ length z = omega (arith, ap length ez) in
+    let pa = put-within 23 z a 0 2 (x .number) long ea (omega arith) in
+    let pb = put-within 23 a b 2 8 (x .value) (pa .1) eb (omega arith) in
+    let pc = put-within 23 b c 10 4 (x .moves) (pb .1) ec (omega arith) in
+    let pd = put-within 23 c d 14 4 (x .head) (pc .1) ed (omega arith) in
+    let pe = put-within 23 d e 18 4 (x .len) (pd .1) ee (omega arith) in
     let s4 : List ℕ = hex 4 (x .len) ++ (lf ∷ []) in
     let s3 : List ℕ = hex 4 (x .head) ++ s4 in
     let s2 : List ℕ = hex 4 (x .moves) ++ s3 in
     let s1 : List ℕ = hex 8 (x .value) ++ s2 in
-    put-ended d e 18 4 (x .len) lf ee
-    ∙ ap (λ t. put t 18 s4) ed
+    put-ended d e 18 4 (x .len) lf (pe .0)
+    ∙ ap (λ t. put t 18 s4) (pd .0)
     ∙ after-hex c 14 4 (x .head) 18 s4 refl
-    ∙ ap (λ t. put t 14 s3) ec
+    ∙ ap (λ t. put t 14 s3) (pc .0)
     ∙ after-hex b 10 4 (x .moves) 14 s3 refl
-    ∙ ap (λ t. put t 10 s2) eb
+    ∙ ap (λ t. put t 10 s2) (pb .0)
     ∙ after-hex a 2 8 (x .value) 10 s2 refl
-    ∙ ap (λ t. put t 2 s1) ea
+    ∙ ap (λ t. put t 2 s1) (pa .0)
     ∙ after-hex z 0 2 (x .number) 2 s1 refl
     ∙ all-of (lineOf x) z (length-line x ∙ sym (ap length ez))
 

@@ -6,11 +6,12 @@ use Prim.Native.Nat.{ℕ, _^_, _<_}
 use native.Mathlib.Omega.{arith}
 use borrow.Author.Tests.{eq-eqb, ne-eqb}
 use lib.ListN.{length, take, drop, length-take, length-drop}
-use Rattle.digits.specs.Hex.{areDigits}
+use Rattle.digits.specs.Hex.{areDigits, numberIn}
 use Rattle.digits.specs.Rows.{under}
 use Rattle.digits.proofs.Rows.{Apart, no-row}
+use Rattle.digits.proofs.Fields.{field-says}
 use Rattle.tray_lines.specs.declared.lines.Said.{Said}
-use Rattle.tray_lines.specs.Lines.{operation, container, position, value, callSays, said}
+use Rattle.tray_lines.specs.Lines.{callSays, said}
 
 -- a number that stands in no row, once every row was tried
 pub unknown : (n : ℕ) (rows : List (ℕ × Said)) (before : Type 0) → Apart n rows before → Said.Unknown ≡ under n rows Said.Unknown
@@ -34,8 +35,10 @@ unfolding said
 says-no-digits l b e d f = let no : areDigits l ≡ false = sym d ∙ f in rw (eq-eqb (length l) 16 e, no)
 
 pub says-call : (l : List ℕ) (b : Bool) (op c i x : ℕ) (s : Said) → length l ≡ 16 → b ≡ areDigits l → b ≡ true
-    → op ≡ operation l → c ≡ container l → i ≡ position l → x ≡ value l → s ≡ callSays op c i x → s ≡ said l
+    → op ≡ numberIn (take 2 (drop 0 l)) → c ≡ numberIn (take 2 (drop 2 l)) → i ≡ numberIn (take 4 (drop 4 l)) → x ≡ numberIn (take 8 (drop 8 l))
+    → s ≡ callSays op c i x → s ≡ said l
 unfolding said
 says-call l b op c i x s e d t eo ec ei ex es =
     let yes : areDigits l ≡ true = sym d ∙ t in
-    rw (eq-eqb (length l) 16 e, yes) (es ∙ cc (eo, ec, ei, ex))
+    rw (eq-eqb (length l) 16 e, yes)
+    (es ∙ cc (field-says 0 2 l yes (omega arith) op eo, field-says 2 2 l yes (omega arith) c ec, field-says 4 4 l yes (omega arith) i ei, field-says 8 8 l yes (omega arith) x ex))

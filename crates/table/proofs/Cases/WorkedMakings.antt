@@ -108,6 +108,6 @@ unfolding valid
 mosts-done = (
   sym (new-done ring most _ few refl),
   sym (with-capacity-done vector most _ few 4096 (rw (length-replicate {A = ℕ} 4096 7) (omega arith)) refl),
-  sym (len-done ring (tray 4095 4096 most) _ refl refl _ refl refl),
-  sym (len-done vector (tray 0 4096 most) _ refl refl _ refl refl),
+  sym (len-done ring (tray 4095 4096 most) _ refl refl _ 4097 refl refl refl),
+  sym (len-done vector (tray 0 4096 most) _ refl refl _ 4097 refl refl refl),
 )

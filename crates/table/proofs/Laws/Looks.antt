@@ -1,16 +1,20 @@
 -- What a call that changes nothing shows, as the proof of its function finds it: o is what is seen, and each premise a fact that the code's steps
 -- tell. One law for all of them; the rest only name the tests that were passed.
-use mathlib.Core.Path.{_≡_, refl}
-use mathlib.Core.Bool.{false}
-use Prim.Native.Nat.{ℕ, _-_, _≤_, _<_}
-use borrow.Author.Tests.{lt-leb, le-ltb, eq-eqb, ne-eqb}
+use mathlib.Core.Path.{_≡_, refl, _∙_}
+use mathlib.Core.Bool.{true, false}
+use Prim.Native.Nat.{ℕ, _-_, _%_, _≤_, _<_}
+use native.Mathlib.Nat.{mod-eq-of-lt}
+use native.Mathlib.Omega.{arith}
+use borrow.Author.Tests.{ltb-true, lt-leb, le-ltb, eq-eqb, ne-eqb}
+use lib.Dec.{ltb}
 use lib.ListN.{getD}
-use Rattle.slots.specs.Layout.{Kind, vector, place}
+use Rattle.slots.specs.Layout.{most, Kind, vector, place}
 use Rattle.table.specs.Tray.{Tray, cap, list, invalid, Cursor}
 use Rattle.table.specs.Calls.{Look, look, len, isEmpty, read, reserve, range, iter, intoIter}
 use Rattle.table.specs.Table.{lookRow}
 use Rattle.table.specs.Does.{Outcome, gives, rowOf, does}
 use Rattle.table.proofs.Laws.Refusals.{Clear, inside}
+use Rattle.table.proofs.Laws.Valid.{fit}
 use Rattle.table.proofs.Laws.Done.{Homed, done-is, many, still, at, as-it-was}
 
 -- the container as it was, with this value and cursor
@@ -23,9 +27,12 @@ module _ (k : Kind) (t : Tray) (o : Outcome) (ok : invalid k t ≡ false) (home 
   look-done q clear eo =
       cc (eo, home, done-is k t (look q) ok clear, many k t, still k t, as-it-was k t ok)
 
-  -- the length as an entry, whatever its width
-  pub len-done : (value : ℕ) → value ≡ t .len → o ≡ gives value 0 (t .head) (t .len) (t .slots) → o ≡ does k (look len) t
-  len-done value ev eo = look-done len tt (rw ev at eo)
+  -- the length as one of the m numbers that an entry can be, which are enough whatever its width
+  pub len-done : (value m : ℕ) → value ≡ t .len % m → ltb most m ≡ true → o ≡ gives value 0 (t .head) (t .len) (t .slots) → o ≡ does k (look len) t
+  len-done value m ev wide eo =
+      let f = fit k t ok in
+      let all : value ≡ t .len = ev ∙ mod-eq-of-lt (omega (arith, ltb-true most m wide)) in
+      look-done len tt (rw all at eo)
 
   pub read-done : (i s : ℕ) → i < t .len → s ≡ place k (cap t) (t .head) i
       → o ≡ gives (getD (t .slots) s 0) 0 (t .head) (t .len) (t .slots) → o ≡ does k (look (read i)) t

@@ -44,13 +44,14 @@ vector-facts c n ok =
 
 -- what a valid tray tells
 pub record Fit (k : Kind) (t : Tray) : Type 0 where
+  pub small : cap t ≤ 4096
   pub fits : t .len ≤ cap t
   pub placed : Placing (cap t) (place k (cap t) (t .head)) (pos k (cap t) (t .head))
 
 pub fit : (k : Kind) (t : Tray) → invalid k t ≡ false → Fit k t
 unfolding valid
-fit ring t ok = let v = ring-facts (cap t) (t .head) (t .len) ok in record { fits = v .fits; placed = placing ring _ _ (v .inside) }
-fit vector t ok = let v = vector-facts (cap t) (t .len) ok in record { fits = v .fits; placed = placing vector _ 0 (omega arith) }
+fit ring t ok = let v = ring-facts (cap t) (t .head) (t .len) ok in record { small = v .small; fits = v .fits; placed = placing ring _ _ (v .inside) }
+fit vector t ok = let v = vector-facts (cap t) (t .len) ok in record { small = v .small; fits = v .fits; placed = placing vector _ 0 (omega arith) }
 
 pub ring-inside : (t : Tray) → invalid ring t ≡ false → 0 < cap t → t .head < cap t
 ring-inside t ok some = omega (arith, ring-facts (cap t) (t .head) (t .len) ok)

@@ -34,12 +34,12 @@ pub record Answers (applies : ℕ → Type 0) (number : ℕ) : Type 0 where
   pub done : ((j : ℕ) → applies j → ⊥) → number ≡ 0
 
 -- each test that holds says that its number applies
-abbrev Sound : (applies : ℕ → Type 0) → List (Bool × Refusal) → Type 0
+abbrev pub Sound : (applies : ℕ → Type 0) → List (Bool × Refusal) → Type 0
 Sound applies [] = Unit {0}
 Sound applies (r ∷ rest) = (r .0 ≡ true → applies (numberOf (r .1))) × Sound applies rest
 
 -- a test holds whose number is j or lower
-abbrev Tests : (j : ℕ) → List (Bool × Refusal) → Type 0
+abbrev pub Tests : (j : ℕ) → List (Bool × Refusal) → Type 0
 Tests j [] = ⊥
 Tests j (r ∷ rest) = ((r .0 ≡ true) × (numberOf (r .1) ≤ j)) ⊎ Tests j rest
 
@@ -71,7 +71,7 @@ reached m j (r ∷ rest) rise (inr more) = go (r .0) (reached (numberOf (r .1)) 
     go true after = (above-zero (r .1), bounded (numberOf (r .1)) j rest up more)
     go false after = after
 
-answers : (applies : ℕ → Type 0) (rs : List (Bool × Refusal)) → rising 1 rs ≡ true → Sound applies rs → ((j : ℕ) → applies j → Tests j rs)
+pub answers : (applies : ℕ → Type 0) (rs : List (Bool × Refusal)) → rising 1 rs ≡ true → Sound applies rs → ((j : ℕ) → applies j → Tests j rs)
     → Answers applies (firstNumber rs)
 answers applies rs rise sound tested = record {
   lowest = λ m e. (applied applies rs sound m e, λ j lt a. omega (arith, at-most j a));

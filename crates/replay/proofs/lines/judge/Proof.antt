@@ -1,6 +1,5 @@
 -- `lines::judge` meets its promise: the length and the digits are tested, then each field is read.
 use borrow.Author.Needs.{needs}
-use Rattle.digits.proofs.Fields.{field-digits, field-short}
 use Rattle.replay.proofs.Taken.{takes-length, takes-no-digits, takes-line}
 use Rattle.replay.proofs.lines.judge.Statement.{statement}
 use Rattle.replay.proofs.lines.judge.Tie as tie
@@ -14,15 +13,15 @@ judge-spec =
     (λ c. search needs)
     (λ c. search needs)
     (λ c. search needs)
-    (λ c κs. search (field-digits, field-short, needs))
+    (λ c κs. search needs)
     (λ c. search needs)
     (λ c. search needs)
     (λ c. search needs)
-    (λ c κs. search (field-digits, field-short, needs))
+    (λ c κs. search needs)
     (λ c. search needs)
     (λ c. search needs)
     (λ c. search needs)
-    (λ c κs. search (field-digits, field-short, needs))
+    (λ c κs. search needs)
     (λ c κs. search needs)
     (λ c. search (takes-line, needs))
     (λ c. search (takes-no-digits, needs)))

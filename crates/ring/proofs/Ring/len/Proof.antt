@@ -1,7 +1,6 @@
 -- `Ring::len` meets its promise: nothing is stored, and the length is the list's.
 use borrow.Author.Needs.{needs}
 use Rattle.table.specs.Does.{does}
-use Rattle.table.proofs.Laws.Valid.{state}
 use Rattle.table.proofs.Laws.Looks.{len-done}
 use Rattle.ring.proofs.Told.{refusals, shown}
 use Rattle.ring.proofs.Ring.len.Statement.{statement}
@@ -15,6 +14,6 @@ len-spec =
     (λ c κs. search needs)
     (λ c κs. search needs)
     (λ c. search refusals)
-    (λ c κs. omega state)
+    (λ c κs. search needs)
     (λ c κs. search needs)
     (λ c. search (len-done, shown)))

@@ -1,6 +1,5 @@
 -- `lines::parse` meets its promise: the length and the digits are tested, then each field is read from its part.
 use borrow.Author.Needs.{needs}
-use Rattle.digits.proofs.Fields.{field-digits, field-short}
 use Rattle.tray_lines.proofs.Says.{value-fits, says-garbled, says-no-digits, says-call}
 use Rattle.tray_lines.proofs.lines.parse.Statement.{statement}
 use Rattle.tray_lines.proofs.lines.parse.Tie as tie
@@ -14,19 +13,19 @@ parse-spec =
     (λ c. search needs)
     (λ c. search needs)
     (λ c. search needs)
-    (λ c κs. search (field-digits, field-short, needs))
+    (λ c κs. search needs)
     (λ c. search needs)
     (λ c. search needs)
     (λ c. search needs)
-    (λ c κs. search (field-digits, field-short, needs))
+    (λ c κs. search needs)
     (λ c. search needs)
     (λ c. search needs)
     (λ c. search needs)
-    (λ c κs. search (field-digits, field-short, needs))
+    (λ c κs. search needs)
     (λ c. search needs)
     (λ c. search needs)
     (λ c. search needs)
-    (λ c κs. search (field-digits, field-short, needs))
+    (λ c κs. search needs)
     (λ c. search (value-fits, needs))
     (λ c κs. search needs)
     (λ c. search (says-call, needs))

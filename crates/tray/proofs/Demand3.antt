@@ -30,7 +30,7 @@ module _ (κs : Lfts 0) (a : ArgsD start·fn.signature κs) (t : ResD start·fn.
     (begin : a2 .0 ≡ t) (begun-line : fresh·reads.Learnt κs2 a2 s e2)
     (κs3 : Lfts 2) (a3 : ArgsD run·fn.signature κs3) (r : ResD run·fn.signature κs3) (e3 : AtExit run·fn.ended κs3)
     (from : a3 .0 ≡ s) (read : run·reads.Learnt κs3 a3 r e3) where
-  -- the bytes that were read, as many as `run` counted
+  -- some bytes that lead where `run` stands, as many as it counted
   abbrev pub input : List ℕ
   input = read .bytes
 

@@ -1,3 +1,3 @@
--- The laws behind what `tray` promises of the bytes that it read.
+-- The laws behind where `tray` promises to stand, and demand 3 of its runs.
 pub mod Reading
 pub mod Demand3

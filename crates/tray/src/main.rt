@@ -49,7 +49,7 @@ fn turn(went: Went, buf: &mut [u8], out: &mut [u8]) -> Went
     }
 }
 
-// Until the input ends or the output is closed. The bytes are counted for the promise: no read is left out of what the state was made of.
+// Until the input ends or the output is closed. What a turn gives back is what the next one begins with.
 fn run(first: State, buf: &mut [u8], out: &mut [u8]) -> Went
     requires { ⌜ (length (now buf) ≤ 4096) × (23 * length (now buf) ≤ length (now out)) ⌝ }
     ensures { λ r. ⌜ Ran first r ⌝ }

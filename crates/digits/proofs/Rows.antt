@@ -1,13 +1,9 @@
--- What is found under a number: the row that bears it, and for a number that no row bears what stands for none.
-use mathlib.Core.Path.{_≡_, refl, sym, ap, _∙_}
+-- What is found under a number that no row bears: what stands for none, since each row was tried.
+use mathlib.Core.Path.{_≡_, refl, _∙_}
 use mathlib.Core.List.{List, [], _∷_}
 use Prim.Native.Nat.{ℕ}
 use borrow.Author.Tests.{ne-eqb}
 use Rattle.digits.specs.Rows.{under}
-
-module _ {A : Type 0} (rows : List (ℕ × A)) (none : A) where
-  pub row-is : (op n : ℕ) (o : A) → op ≡ n → o ≡ under n rows none → o ≡ under op rows none
-  row-is op n o e found = found ∙ sym (ap (λ n. under n rows none) e)
 
 -- a number that stands in no row, as the code has it once every row was tried: the first row innermost
 abbrev pub Apart : {A : Type 0} → (n : ℕ) → List (ℕ × A) → (before : Type 0) → Type 0

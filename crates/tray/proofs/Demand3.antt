@@ -8,7 +8,7 @@ use contract.Lifetimes.{Lfts}
 use denote.Triple.Clauses.{AtExit}
 use borrow.Fn.World.{ArgsD, ResD}
 use Rattle.table.specs.Ledger.{modelled, entered, handed, dropped}
-use Rattle.table.specs.World.{World, lines, held, standingAll}
+use Rattle.table.specs.World.{lines, held, standingAll}
 use Rattle.tray_lines.specs.declared.feeds.State.{State}
 use Rattle.tray_lines.specs.Seen.{world}
 use Rattle.tray_lines.specs.Acts.{begun}

@@ -1,6 +1,6 @@
 -- Reads add up: before the first read no byte is needed, and after one more the bytes are those so far and those of that read. Each read that is
 -- not the last one has a byte, so the loop ends.
-use Prim.Native.Nat.{ℕ, _+_, _*_, _-_, _≤_, _<_}
+use Prim.Native.Nat.{ℕ, _+_, _*_, _-_, _<_}
 use mathlib.Core.Path.{_≡_, refl, sym, ap, _∙_}
 use mathlib.Core.Bool.{Bool, true, false, cond, _&&_}
 use mathlib.Core.List.{List, [], _++_}

@@ -10,7 +10,7 @@ use lib.Dec.{ltb}
 use lib.ListN.{getD}
 use Rattle.slots.specs.Layout.{most, Kind, vector, place}
 use Rattle.table.specs.Tray.{Tray, cap, list, invalid, Cursor}
-use Rattle.table.specs.Calls.{Look, look, len, isEmpty, read, reserve, range, iter, intoIter}
+use Rattle.table.specs.Calls.{Look, look, len, isEmpty, read, reserve, range, iter}
 use Rattle.table.specs.Table.{lookRow}
 use Rattle.table.specs.Does.{Outcome, gives, rowOf, does}
 use Rattle.table.proofs.Laws.Refusals.{Clear, inside}
@@ -54,9 +54,6 @@ module _ (k : Kind) (t : Tray) (o : Outcome) (ok : invalid k t ≡ false) (home 
 
   pub iter-done : o ≡ shows t 0 (record { front = 0; back = t .len }) → o ≡ does k (look iter) t
   iter-done eo = look-done iter tt eo
-
-  pub into-iter-done : o ≡ shows t 0 (record { front = 0; back = t .len }) → o ≡ does k (look intoIter) t
-  into-iter-done eo = look-done intoIter tt eo
 
 -- A vector's position is its slot.
 pub vector-read-done : (t : Tray) (o : Outcome) → invalid vector t ≡ false → Homed vector t → (i : ℕ) → i < t .len

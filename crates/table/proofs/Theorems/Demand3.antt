@@ -11,7 +11,7 @@ use Rattle.slots.specs.Count.{count}
 use Rattle.slots.specs.Layout.{Kind}
 use Rattle.slots.proofs.Counts.{count-append}
 use Rattle.slots.proofs.Placing.{placing, tally-entries}
-use Rattle.table.specs.Tray.{Tray, cap, list}
+use Rattle.table.specs.Tray.{Tray, cap}
 use Rattle.table.specs.Does.{Outcome, Outcome2}
 use Rattle.table.specs.Ledger.{goesBy, goesBy2, Lists, listAt, listsAfter, flows, modelled, entered, handed, dropped}
 use Rattle.table.specs.Promise.{Good, Keeps, Keeps2}

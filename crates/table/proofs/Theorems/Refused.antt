@@ -1,9 +1,9 @@
 -- A refused call changes nothing: its answer has value 0 and moves 0, and the states, slots and cursor are those given; a refused making gives
--- state 0, 0. And a call answers 0 exactly where no refusal of its row holds.
+-- state 0, 0. And where a call answers 0 no refusal of its row holds; that it answers 0 only and always there is in `Numbers`.
 use Prim.Native.Nat.{ℕ, suc, _<_}
 use mathlib.Core.Bool.{Bool}
 use native.Mathlib.Omega.{arith}
-use mathlib.Core.Path.{_≡_, refl, ap, _∙_}
+use mathlib.Core.Path.{_≡_, refl}
 use mathlib.Core.List.{List}
 use lib.ListN.{length}
 use Rattle.slots.specs.Layout.{Kind}
@@ -28,9 +28,6 @@ module _ (k : Kind) (call : Call) (t : Tray) where
     pub call-clear : o .number ≡ 0 → Clear (refusalsOf k call t)
     call-clear = rw promised (call-settled .clear)
 
-    pub clear-call : Clear (refusalsOf k call t) → o .number ≡ 0
-    clear-call clear = ap (λ o. o .number) (promised ∙ call-settled .otherwise clear)
-
 -- every number that a list of refusals may answer takes 4 bits
 first-below-16 : (rs : List (Bool × Refusal)) → firstNumber rs < 16
 first-below-16 rs = either (λ m. m < 16) (λ m. m) rs 0 below-16 (λ clear. omega arith)
@@ -52,9 +49,6 @@ module _ (k k2 : Kind) (call : Call2) (t t2 : Tray) where
     pub two-clear : o .number ≡ 0 → Clear (refusalsOf2 k k2 call t t2)
     two-clear = rw promised (two-settled .clear)
 
-    pub clear-two : Clear (refusalsOf2 k k2 call t t2) → o .number ≡ 0
-    clear-two clear = ap (λ o. o .number) (promised ∙ two-settled .otherwise clear)
-
 pub few-numbers2 : (k k2 : Kind) (call : Call2) (t t2 : Tray) → does2 k k2 call t t2 .number < 16
 few-numbers2 k k2 call t t2 = rw (two-settled k k2 call t t2 .first) (first-below-16 (refusalsOf2 k k2 call t t2))
 
@@ -71,6 +65,3 @@ module _ (k : Kind) (m : Making) (slots : List ℕ) where
 
     pub made-clear : o .number ≡ 0 → Clear (refusalsMade m slots)
     made-clear = rw promised (made-settled .clear)
-
-    pub clear-made : Clear (refusalsMade m slots) → o .number ≡ 0
-    clear-made clear = ap (λ o. o .number) (promised ∙ made-settled .otherwise clear)

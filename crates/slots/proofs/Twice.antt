@@ -1,4 +1,4 @@
--- The form in which every crate states that a promise leaves one result.
+-- The form in which a crate states that a promise leaves one result; only `digits`, which leans on no crate, writes it out.
 use contract.Lifetimes.{Lfts}
 use denote.Triple.Clauses.{Ended, AtExit}
 use borrow.Fn.World.{ArgsD, ResD}

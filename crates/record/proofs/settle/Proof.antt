@@ -1,0 +1,23 @@
+-- `settle` meets its promise: the late refusals in their order, and what is laid into the slots where there is room.
+use mathlib.Core.Path.{refl}
+use borrow.Author.Needs.{needs}
+use Rattle.record.proofs.Saying.{late-refused, few-starts, few-ends, value-fits, placed}
+use Rattle.record.proofs.settle.Statement.{statement}
+use Rattle.record.proofs.settle.Tie as tie
+
+pub settle-spec : {M : Type 1} → statement M
+settle-spec =
+    tie.close
+    (tie.spec
+    (λ c κs. search needs)
+    (λ c. search (late-refused, needs))
+    (λ c κs. search needs)
+    (λ c. search (few-starts, needs))
+    (λ c κs. search needs)
+    (λ c. search (few-ends, needs))
+    (λ c κs. search needs)
+    (λ c. record { fits = search (value-fits, needs) })
+    (λ c κs. search needs)
+    (λ c. search needs)
+    (λ c. search needs)
+    (λ c. search (placed, needs)))

@@ -1,0 +1,4 @@
+-- The laws on records.
+pub mod Complete
+pub mod Sound
+pub mod Refused

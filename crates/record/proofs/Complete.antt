@@ -23,7 +23,7 @@ unfolding scan
 plain-runs at to a s t none = refl
 plain-runs at to a s t (textdata {b} {s = s′} x r) = rw (text-not-special b x) (plain-runs (at + 1) to a s′ t r)
 
-body-runs : (at to q : ℕ) (s t : List ℕ) → Body at s to t → scan s (quoted q) at ≡ scan t (quoted q) to
+pub body-runs : (at to q : ℕ) (s t : List ℕ) → Body at s to t → scan s (quoted q) at ≡ scan t (quoted q) to
 unfolding scan
 body-runs at to q s t Body.none = refl
 body-runs at to q s t (Body.byte {b} {s = s′} x r) = rw (ne-eqb b quote x) (body-runs (at + 1) to q s′ t r)
@@ -57,7 +57,7 @@ fresh-stops at s atComma = refl
 fresh-stops at s bareLf = refl
 fresh-stops at s crlf = refl
 
-field-read : (at a e to : ℕ) (s t : List ℕ) → Field at s a e to t → Stop t → scan s fresh at ≡ stops t (a, e) to
+pub field-read : (at a e to : ℕ) (s t : List ℕ) → Field at s a e to t → Stop t → scan s fresh at ≡ stops t (a, e) to
 unfolding scan
 field-read at a e to s t (Field.escaped {s = s′} r) at-stop = body-runs (at + 1) e at s′ (quote ∷ t) r ∙ closed-stops at e (e + 1) t at-stop
 field-read at a e to s t (Field.nonEscaped none) at-stop = fresh-stops at s at-stop

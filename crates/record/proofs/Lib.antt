@@ -2,3 +2,6 @@
 pub mod Complete
 pub mod Sound
 pub mod Refused
+pub mod Wrong
+pub mod Opens
+pub mod Where

@@ -1,14 +1,13 @@
 -- Whatever the grammar reads, the scan reads so, rule by rule. Hence a text has one reading. Assumes nothing.
 use mathlib.Core.Path.{_≡_, refl, sym, ap, _∙_}
-use mathlib.Core.Bool.{Bool, true, false, cond}
+use mathlib.Core.Bool.{false}
 use mathlib.Core.List.{List, [], _∷_}
 use Prim.Native.Nat.{ℕ, _+_}
 use native.Mathlib.Omega.{arith}
 use borrow.Author.Tests.{ne-eqb}
-use lib.Dec.{eqb}
 use Rattle.record.specs.Grammar.{comma, quote, cr, lf, Textdata, NonEscaped, Body, Field, Fields, Ends, From, Reads}
 use Rattle.record.specs.Grammar.NonEscaped.{none, textdata}
-use Rattle.record.specs.Scan.{Reading, Ending, upTo, more, special, stop, State, fresh, plain, quoted, closed, scan, scanned, done}
+use Rattle.record.specs.Scan.{Reading, upTo, more, special, stop, fresh, plain, quoted, closed, scan, scanned, done}
 
 -- what is read where a field has ended
 abbrev pub stops : (s : List ℕ) (f : ℕ × ℕ) (at : ℕ) → Reading

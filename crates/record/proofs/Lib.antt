@@ -5,3 +5,5 @@ pub mod Refused
 pub mod Wrong
 pub mod Opens
 pub mod Where
+pub mod Local
+pub mod Decided

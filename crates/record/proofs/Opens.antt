@@ -8,7 +8,7 @@ use native.Mathlib.Omega.{arith}
 use borrow.Author.Tests.{eqb-true, eqb-false}
 use lib.Dec.{eqb}
 use Rattle.record.specs.Grammar.{comma, quote, cr, lf, Textdata, NonEscaped, Body, Field, Fields}
-use Rattle.record.specs.Scan.{Reading, Ending, upTo, special, starts, stop, State, fresh, plain, quoted, closed, scan, scanned}
+use Rattle.record.specs.Scan.{Reading, upTo, special, starts, stop, State, fresh, plain, quoted, closed, scan, scanned}
 use Rattle.record.specs.Scan.{done, bad, unclosed}
 use Rattle.record.specs.Where.{Begins, OpenedAt}
 use Rattle.record.proofs.Complete.{Stop, body-runs, field-read}

@@ -1,5 +1,5 @@
 -- Whatever the scan reads, the grammar reads so: byte by byte, by what a reading means in each state of the scan. Assumes nothing.
-use mathlib.Core.Path.{_≡_, refl, sym, ap, subst, _∙_}
+use mathlib.Core.Path.{_≡_, refl, subst}
 use mathlib.Core.Bool.{Bool, true, false, cond, _&&_, _||_}
 use mathlib.Core.List.{List, [], _∷_}
 use Prim.Native.Nat.{ℕ, _+_}
@@ -7,7 +7,7 @@ use native.Mathlib.Omega.{arith}
 use borrow.Author.Tests.{eqb-true, eqb-false}
 use lib.Dec.{eqb}
 use Rattle.record.specs.Grammar.{comma, quote, cr, lf, Textdata, NonEscaped, Body, Field, Fields, Ends, From, Reads}
-use Rattle.record.specs.Scan.{Reading, Ending, upTo, more, special, starts, stop, State, fresh, plain, quoted, closed, scan, scanned}
+use Rattle.record.specs.Scan.{Reading, upTo, more, special, starts, stop, State, fresh, plain, quoted, closed, scan, scanned}
 use Rattle.record.specs.Scan.{done, bad, unclosed}
 
 -- what follows a field that has ended

@@ -15,7 +15,7 @@ use Rattle.record.specs.Scan.{Reading, Ending, upTo, scanned, done, bad,
 use Rattle.record.specs.Where.{Bad, Unclosed, BadAt, OpenedAt}
 use Rattle.record.proofs.Refused.{fits-done, ending-bad, ending-unclosed, bad-ending}
 use Rattle.record.proofs.Opens.{opened-at, opened-ending}
-use Rattle.record.proofs.Wrong.{Wrong, lineEnd, wrong-at, lone-last, lone-cut, stays-wrong, grows, inside}
+use Rattle.record.proofs.Wrong.{lineEnd, wrong-at, lone-last, lone-cut, stays-wrong, grows, inside}
 
 endings : {r : Reading} {fields : List (ℕ × ℕ)} {ending : Ending} → r ≡ upTo fields ending → r .ending ≡ ending
 endings e = ap (λ (r : Reading). r .ending) e

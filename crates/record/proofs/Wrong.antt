@@ -1,6 +1,6 @@
 -- A scan that goes wrong does so at one byte: what stands before that byte is read, and what stands behind it matters only if the byte is a CR.
 -- Byte by byte, for every state of the scan. Assumes nothing.
-use mathlib.Core.Path.{_≡_, refl, sym, ap, subst, _∙_}
+use mathlib.Core.Path.{_≡_, refl, ap, subst, _∙_}
 use mathlib.Core.Bool.{Bool, true, false, cond, _&&_}
 use mathlib.Core.List.{List, [], _∷_, _++_, append-assoc}
 use Prim.Native.Nat.{ℕ, zero, suc, _+_, _<_}
@@ -8,7 +8,7 @@ use native.Mathlib.Omega.{arith}
 use lib.Dec.{eqb}
 use lib.ListN.{length, take, length-append}
 use Rattle.record.specs.Grammar.{comma, quote, cr, lf}
-use Rattle.record.specs.Scan.{Reading, Ending, upTo, more, special, starts, stop, State, fresh, plain, quoted, closed, scan, scanned}
+use Rattle.record.specs.Scan.{Reading, upTo, special, starts, stop, State, fresh, plain, quoted, closed, scan, scanned}
 use Rattle.record.specs.Scan.{done, bad, unclosed}
 
 -- a byte and those behind it are a CR and an LF

@@ -7,3 +7,5 @@ pub mod Opens
 pub mod Where
 pub mod Local
 pub mod Decided
+pub mod RoundTrip
+pub mod Whole

@@ -17,7 +17,7 @@ stops (b ∷ s) f at = stop f at b s (scan s fresh (at + 1))
 pub text-not-special : (b : ℕ) → Textdata b → special b ≡ false
 text-not-special b t = simp (ne-eqb b comma (t .no-comma), ne-eqb b quote (t .no-quote), ne-eqb b cr (t .no-cr), ne-eqb b lf (t .no-lf))
 
-plain-runs : (at to a : ℕ) (s t : List ℕ) → NonEscaped at s to t → scan s (plain a) at ≡ scan t (plain a) to
+pub plain-runs : (at to a : ℕ) (s t : List ℕ) → NonEscaped at s to t → scan s (plain a) at ≡ scan t (plain a) to
 unfolding scan
 plain-runs at to a s t none = refl
 plain-runs at to a s t (textdata {b} {s = s′} x r) = rw (text-not-special b x) (plain-runs (at + 1) to a s′ t r)

@@ -9,3 +9,6 @@ pub mod Local
 pub mod Decided
 pub mod RoundTrip
 pub mod Whole
+pub mod Bytes
+pub mod Quick
+pub mod Worked

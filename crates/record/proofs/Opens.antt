@@ -144,14 +144,15 @@ fields-ahead at to s m fields (Fields.last {a = a} {e = e} r) = field-read at a 
 fields-ahead at to s m fields (Fields.andMore {a = a} {e = e} {mid = mid} {m = m′} {fields = fs} r rs) =
     field-read at a e mid s (comma ∷ m′) r Stop.atComma ∙ ap (ahead ((a, e) ∷ [])) (fields-ahead (mid + 1) to m′ m fs rs)
 
+pub begins-ahead : {text : List ℕ} (s : List ℕ) (p : ℕ) → Begins text p s → (before : List (ℕ × ℕ)) × (scanned text ≡ ahead before (scan s fresh p))
+begins-ahead s p Begins.first = ([], refl)
+begins-ahead {text} s p (Begins.later {at = at} {fields = fields} r) = (fields, fields-ahead 0 at text s fields r)
+
 body-open : (p e : ℕ) (s : List ℕ) → Body (p + 1) s e [] → scan (quote ∷ s) fresh p ≡ upTo [] (unclosed p)
 unfolding scan
 body-open p e s r = body-runs (p + 1) e p s [] r
 
-begins-open : {text : List ℕ} (p e : ℕ) (s : List ℕ) → Begins text p (quote ∷ s) → Body (p + 1) s e [] → scanned text .ending ≡ unclosed p
-begins-open p e s Begins.first r = ap (λ (r : Reading). r .ending) (body-open 0 e s r)
-begins-open {text} p e s (Begins.later {at = at} {fields = fields} rs) r =
-    ap (λ (r : Reading). r .ending) (fields-ahead 0 at text (quote ∷ s) fields rs ∙ ap (ahead fields) (body-open (at + 1) e s r))
-
 pub opened-ending : (text : List ℕ) (p : ℕ) → OpenedAt text p → scanned text .ending ≡ unclosed p
-opened-ending text p (OpenedAt.opened {e = e} {s = s} b r) = begins-open p e s b r
+opened-ending text p (OpenedAt.opened {e = e} {s = s} b r) =
+    let x = begins-ahead (quote ∷ s) p b in
+    ap (λ (r : Reading). r .ending) (x .1 ∙ ap (ahead (x .0)) (body-open p e s r))

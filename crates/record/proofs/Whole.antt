@@ -12,7 +12,7 @@ use Rattle.record.specs.Undone.{undone, part}
 use Rattle.record.specs.Where.{Begins}
 use Rattle.record.proofs.Complete.{Stop, stops, field-read, complete}
 use Rattle.record.proofs.Wrong.{ahead}
-use Rattle.record.proofs.Opens.{fields-ahead}
+use Rattle.record.proofs.Opens.{fields-ahead, begins-ahead}
 use Rattle.record.proofs.Local.{fields-local}
 use Rattle.record.proofs.RoundTrip.{part-at, undone-byte}
 
@@ -48,11 +48,6 @@ begins-behind (Begins.later {at = at} {s = s} r) =
     let w = fields-local r .passed in
     let place : at ≡ 0 + length (w .bytes) = w .place in
     (w .bytes ++ (comma ∷ []), w .whole ∙ sym (append-assoc (w .bytes) (comma ∷ []) s), omega (arith, length-append (w .bytes) (comma ∷ [])))
-
--- and so many fields
-begins-ahead : {text : List ℕ} (s : List ℕ) (p : ℕ) → Begins text p s → (before : List (ℕ × ℕ)) × (scanned text ≡ ahead before (scan s fresh p))
-begins-ahead s p Begins.first = ([], refl)
-begins-ahead {text} s p (Begins.later {at = at} {fields = fields} r) = (fields, fields-ahead 0 at text s fields r)
 
 -- a field that has ended is the first of what is read from there
 stops-first : {rest : List ℕ} (f : ℕ × ℕ) (at : ℕ) → Stop rest → (later : List (ℕ × ℕ)) × (stops rest f at .fields ≡ f ∷ later)

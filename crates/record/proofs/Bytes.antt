@@ -1,6 +1,6 @@
--- Every byte in every place of the grammar, by the scan of the place: which bytes are taken, and at which the text goes wrong. Assumes nothing.
+-- Every byte in every place of the grammar, by the scan of the place: which bytes are taken, and at which the text goes wrong.
 use mathlib.Core.Path.{_≡_, refl, ap, _∙_}
-use mathlib.Core.Bool.{Bool, true, false}
+use mathlib.Core.Bool.{false}
 use mathlib.Core.List.{List, [], _∷_}
 use Prim.Native.Nat.{ℕ, _+_, _<_}
 use native.Mathlib.Omega.{arith}
@@ -9,6 +9,7 @@ use lib.Dec.{eqb}
 use Rattle.record.specs.Grammar.{comma, quote, cr, lf, Textdata, NonEscaped, Body}
 use Rattle.record.specs.Scan.{Reading, upTo, starts, fresh, plain, closed, scan, scanned, bad}
 use Rattle.record.specs.Where.{Begins}
+use Rattle.record.proofs.Tests.{by-test}
 use Rattle.record.proofs.Complete.{text-not-special, plain-runs, body-runs}
 use Rattle.record.proofs.Sound.{not-special-text}
 use Rattle.record.proofs.Wrong.{ahead}
@@ -24,15 +25,11 @@ pub data Sort (b : ℕ) : Type 0 where
 
 pub sort : (b : ℕ) → Sort b
 sort b =
-    at-test (eqb b comma) (λ e. isComma (eqb-true b comma e))
-    (λ no-comma. at-test (eqb b quote) (λ e. isQuote (eqb-true b quote e))
-    (λ no-quote. at-test (eqb b cr) (λ e. isCr (eqb-true b cr e))
-    (λ no-cr. at-test (eqb b lf) (λ e. isLf (eqb-true b lf e))
+    by-test (eqb b comma) (λ e. isComma (eqb-true b comma e))
+    (λ no-comma. by-test (eqb b quote) (λ e. isQuote (eqb-true b quote e))
+    (λ no-quote. by-test (eqb b cr) (λ e. isCr (eqb-true b cr e))
+    (λ no-cr. by-test (eqb b lf) (λ e. isLf (eqb-true b lf e))
     (λ no-lf. isText (not-special-text b (rw (no-comma, no-quote, no-cr, no-lf) refl))))))
-  where
-    at-test : (c : Bool) → (c ≡ true → Sort b) → (c ≡ false → Sort b) → Sort b
-    at-test true t f = t refl
-    at-test false t f = f refl
 
 -- in a field that is not quoted, every byte of text is taken; in a body, every byte but a quote
 pub plain-taken : {at to b : ℕ} {s t : List ℕ} → Textdata b → NonEscaped at s to (b ∷ t) → NonEscaped at s (to + 1) t

@@ -1,4 +1,4 @@
--- Whatever the grammar reads, the scan reads so, rule by rule. Hence a text has one reading. Assumes nothing.
+-- Whatever the grammar reads, the scan reads so, rule by rule. Hence a text has one reading.
 use mathlib.Core.Path.{_≡_, refl, sym, ap, _∙_}
 use mathlib.Core.Bool.{false}
 use mathlib.Core.List.{List, [], _∷_}

@@ -1,5 +1,5 @@
 -- Nothing behind the byte that decides is looked at: a record that a line end ended is the same with any bytes behind it, by what each rule of the
--- grammar passes over, and so is a text that goes wrong, but for a CR at its end. Hence a file may be read through a window. Assumes nothing.
+-- grammar passes over, and so is a text that goes wrong, but for a CR at its end. Hence a file may be read through a window.
 use mathlib.Core.Path.{_≡_, refl, sym, ap, subst, _∙_}
 use mathlib.Core.Bool.{Bool, true, false, cond, _&&_}
 use mathlib.Core.List.{List, [], _∷_, _++_, append-assoc}

@@ -1,4 +1,5 @@
 -- The laws on records.
+pub mod Tests
 pub mod Complete
 pub mod Sound
 pub mod Refused

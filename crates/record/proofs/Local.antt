@@ -1,4 +1,4 @@
--- No rule of the grammar looks at a byte behind the place that it leads to; and a record's fields never end with an LF. Rule by rule. Assumes nothing.
+-- No rule of the grammar looks at a byte behind the place that it leads to; and a record's fields never end with an LF. Rule by rule.
 use mathlib.Core.Path.{_≡_, refl, sym, ap, subst, _∙_}
 use mathlib.Core.List.{List, [], _∷_, _++_, append-assoc}
 use Prim.Native.Nat.{ℕ, suc, _+_}

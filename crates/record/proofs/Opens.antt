@@ -1,7 +1,7 @@
 -- A scan that ends inside a quote names the quote that opens the last field: what follows that quote is a body, to the end.
--- Byte by byte one way, rule by rule the other. Assumes nothing.
+-- Byte by byte one way, rule by rule the other.
 use mathlib.Core.Path.{_≡_, refl, ap, subst, _∙_}
-use mathlib.Core.Bool.{Bool, true, false, cond, _&&_}
+use mathlib.Core.Bool.{_&&_}
 use mathlib.Core.List.{List, [], _∷_, _++_}
 use Prim.Native.Nat.{ℕ, _+_}
 use native.Mathlib.Omega.{arith}
@@ -11,6 +11,7 @@ use Rattle.record.specs.Grammar.{comma, quote, cr, lf, Textdata, NonEsca
 use Rattle.record.specs.Scan.{Reading, upTo, special, starts, stop, State, fresh, plain, quoted, closed, scan, scanned}
 use Rattle.record.specs.Scan.{done, bad, unclosed}
 use Rattle.record.specs.Where.{Begins, OpenedAt}
+use Rattle.record.proofs.Tests.{either}
 use Rattle.record.proofs.Complete.{Stop, body-runs, field-read}
 use Rattle.record.proofs.Sound.{not-special-text}
 use Rattle.record.proofs.Wrong.{ahead}
@@ -40,16 +41,12 @@ when-map fs P Q f read = read
 when-map fs P Q f notRead = notRead
 when-map fs P Q f (notClosed x) = notClosed (f _ x)
 
-either : (c : Bool) {x y : Reading} {P : ℕ → Type 0} → (c ≡ true → When P x) → (c ≡ false → When P y) → When P (cond c x y)
-either true t f = t refl
-either false t f = f refl
-
 stop-left : (f : ℕ × ℕ) (at b : ℕ) (s : List ℕ) (P : ℕ → Type 0) (rest : Reading) → (b ≡ comma → (p : ℕ) → Left fresh (at + 1) s p → P p)
     → When (Left fresh (at + 1) s) rest → When P (stop f at b s rest)
 stop-left f at b s P rest on x =
-    either (eqb b comma)
+    either (When _) (eqb b comma)
     (λ e. when-map (f ∷ []) _ _ (on (eqb-true b comma e)) x)
-    (λ _. either (eqb b lf) (λ _. read) (λ _. either (eqb b cr && starts lf s) (λ _. read) (λ _. notRead)))
+    (λ _. either (When _) (eqb b lf) (λ _. read) (λ _. either (When _) (eqb b cr && starts lf s) (λ _. read) (λ _. notRead)))
 
 -- a byte before
 module _ (at : ℕ) (s : List ℕ) where
@@ -95,21 +92,21 @@ scan-left [] (plain a) at = read
 scan-left [] (quoted q) at = notClosed (inBody Body.none)
 scan-left [] (closed q e) at = read
 scan-left (b ∷ s) fresh at =
-    either (eqb b quote)
+    either (When _) (eqb b quote)
     (λ e. rw (eqb-true b quote e) (when-map [] _ _ (λ p. open-quote at s p) (scan-left s (quoted at) (at + 1))))
-    (λ _. either (special b)
+    (λ _. either (When _) (special b)
     (λ _. stop-left (at, at) at b s _ _ (λ e p x. rw e (at-comma at s p x)) (scan-left s fresh (at + 1)))
     (λ e. when-map [] _ _ (λ p. first-text at s p b (not-special-text b e)) (scan-left s (plain at) (at + 1))))
 scan-left (b ∷ s) (plain a) at =
-    either (special b)
+    either (When _) (special b)
     (λ _. stop-left (a, at) at b s _ _ (λ e p x. rw e (plain-comma at s p a x)) (scan-left s fresh (at + 1)))
     (λ e. when-map [] _ _ (λ p. more-text at s p a b (not-special-text b e)) (scan-left s (plain a) (at + 1)))
 scan-left (b ∷ s) (quoted q) at =
-    either (eqb b quote)
+    either (When _) (eqb b quote)
     (λ e. rw (eqb-true b quote e) (when-map [] _ _ (λ p. close-quote at p s q) (scan-left s (closed q at) (at + 1))))
     (λ e. when-map [] _ _ (λ p. more-body at s p q b (eqb-false b quote e)) (scan-left s (quoted q) (at + 1)))
 scan-left (b ∷ s) (closed q f) at =
-    either (eqb b quote)
+    either (When _) (eqb b quote)
     (λ e. rw (eqb-true b quote e) (when-map [] _ _ (λ p. again) (scan-left s (quoted q) (at + 1))))
     (λ _. stop-left (q + 1, f) at b s _ _ (λ e p x. rw e (closed-comma at s p q f x)) (scan-left s fresh (at + 1)))
 

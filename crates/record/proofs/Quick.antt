@@ -1,4 +1,4 @@
--- The scan once more, so that a worked case computes: what a byte does not lead to waits, and is not read. Equation by equation. Assumes nothing.
+-- The scan once more, so that a worked case computes: what a byte does not lead to waits, and is not read. Equation by equation.
 use mathlib.Core.Path.{_≡_, refl, _∙_}
 use mathlib.Core.Bool.{cond}
 use mathlib.Core.List.{List, [], _∷_}

@@ -1,7 +1,7 @@
 -- Fields that a writer wrote come back: doubled quotes are undone, each field is read between its own quotes, and nothing else is. Along the list
--- of fields, by the rules of the grammar. Assumes nothing.
+-- of fields, by the rules of the grammar.
 use mathlib.Core.Path.{_≡_, refl, sym, ap, subst, _∙_}
-use mathlib.Core.Bool.{Bool, true, false, cond}
+use mathlib.Core.Bool.{false}
 use mathlib.Core.List.{List, [], _∷_, _++_, append-assoc}
 use Prim.Native.Nat.{ℕ, suc, _+_, _-_}
 use native.Mathlib.Omega.{arith}
@@ -12,6 +12,7 @@ use lib.Seq.{take-at, drop-at}
 use Rattle.record.specs.Grammar.{comma, quote, Body, Field, Fields, Ends, From, Reads}
 use Rattle.record.specs.Undone.{undone, part, ownBytes}
 use Rattle.record.specs.Written.{doubled, quotedField, written}
+use Rattle.record.proofs.Tests.{either}
 use Rattle.record.proofs.Complete.{only-one}
 
 -- a byte that is no quote is left alone
@@ -20,17 +21,12 @@ unfolding undone
 undone-byte b [] e = refl
 undone-byte b (c ∷ s) e = rw e refl
 
--- by a test
-by-test : (P : Bool → Type 0) (c : Bool) → (c ≡ true → P true) → (c ≡ false → P false) → P c
-by-test P true t f = t refl
-by-test P false t f = f refl
-
 -- what was doubled is undone
 pub undone-doubled : (f : List ℕ) → undone (doubled f) ≡ f
 unfolding undone doubled
 undone-doubled [] = refl
 undone-doubled (b ∷ s) =
-    by-test (λ c. undone (cond c (quote ∷ quote ∷ doubled s) (b ∷ doubled s)) ≡ b ∷ s) (eqb b quote)
+    either (λ (t : List ℕ). undone t ≡ b ∷ s) (eqb b quote)
     (λ e. ap (λ (t : List ℕ). quote ∷ t) (undone-doubled s) ∙ ap (λ n. n ∷ s) (sym (eqb-true b quote e)))
     (λ e. undone-byte b (doubled s) e ∙ ap (λ (t : List ℕ). b ∷ t) (undone-doubled s))
 
@@ -43,7 +39,7 @@ doubled-body [] at rest =
 doubled-body (b ∷ s) at rest =
     let two : at + 2 + length (doubled s) ≡ at + suc (suc (length (doubled s))) = omega arith in
     let one : at + 1 + length (doubled s) ≡ at + suc (length (doubled s)) = omega arith in
-    by-test (λ c. let t = cond c (quote ∷ quote ∷ doubled s) (b ∷ doubled s) in Body at (t ++ rest) (at + length t) rest) (eqb b quote)
+    either (λ (t : List ℕ). Body at (t ++ rest) (at + length t) rest) (eqb b quote)
     (λ e. subst (λ k. Body at (quote ∷ quote ∷ (doubled s ++ rest)) k rest) two (Body.twoQuotes (doubled-body s (at + 2) rest)))
     (λ e. subst (λ k. Body at (b ∷ (doubled s ++ rest)) k rest) one (Body.byte (eqb-false b quote e) (doubled-body s (at + 1) rest)))
 

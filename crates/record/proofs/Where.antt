@@ -1,18 +1,19 @@
 -- Where a text that is no record goes wrong, by the grammar alone: 9 at the byte at fault, by the cuts before and behind it; 10 at the quote that
--- opens the last field. Assumes nothing.
+-- opens the last field.
 use mathlib.Core.Path.{_≡_, refl, sym, ap, subst, _∙_}
 use mathlib.Core.Bool.{Bool, true, false, cond}
 use mathlib.Core.List.{List, [], _∷_, _++_, append-assoc}
 use mathlib.Core.Logic.{_↔_}
-use Prim.Native.Nat.{ℕ, suc, _+_, _-_, _≤_, _<_}
+use Prim.Native.Nat.{ℕ, zero, suc, _+_, _-_, _≤_, _<_}
 use native.Mathlib.Omega.{arith}
 use borrow.Author.Tests.{ltb-true, ltb-false}
 use lib.Dec.{ltb}
 use lib.ListN.{length, take, drop, length-append, length-take, take-append-drop}
 use lib.Seq.{take-at, take-append-add}
 use Rattle.record.specs.Grammar.{Fits}
-use Rattle.record.specs.Scan.{Reading, Ending, upTo, scanned, done, bad, unclosed}
+use Rattle.record.specs.Scan.{Reading, Ending, upTo, scan, scanned, done, bad, unclosed}
 use Rattle.record.specs.Where.{Bad, Unclosed, BadAt, OpenedAt}
+use Rattle.record.proofs.Tests.{by-test}
 use Rattle.record.proofs.Refused.{fits-done, ending-bad, ending-unclosed, bad-ending}
 use Rattle.record.proofs.Opens.{opened-at, opened-ending}
 use Rattle.record.proofs.Wrong.{lineEnd, wrong-at, lone-last, lone-cut, stays-wrong, grows, inside}
@@ -74,23 +75,34 @@ cut-sooner text p p₀ e h =
 
 -- so no other byte is at fault
 pub bad-only : (text : List ℕ) (p : ℕ) → Bad text → BadAt text p → scanned text .ending ≡ bad p
-bad-only text p h at = go (ltb p₀ p) refl
-  where
-    p₀ : ℕ
-    p₀ = bad-ending text h .0
+bad-only text p h at =
+    let p₀ = bad-ending text h .0 in
+    let e = bad-ending text h .1 in
+    by-test (ltb p₀ p)
+    (λ sooner.
+    let before : p₀ < p = ltb-true p₀ p sooner in
+    let all : p₀ + suc (p - suc p₀) ≡ p = omega arith in
+    let still : scanned (take p text) .ending ≡ bad p₀ = rw all at (cut-later text p₀ (p - suc p₀) e) in
+    absurd (ending-bad (take p text) p₀ still .no-fit (at .before)))
+    (λ later.
+    let same : p₀ ≡ p = omega (arith, ltb-false p₀ p later, cut-sooner text p p₀ e (at .behind)) in
+    e ∙ ap bad same)
 
-    e : scanned text .ending ≡ bad p₀
-    e = bad-ending text h .1
+-- the cuts that go wrong are those behind it, and no others: it is the first byte with which no record can go on
+first-cut : (text : List ℕ) (p q : ℕ) → scanned text .ending ≡ bad p → Bad (take q text) → p < q
+unfolding scan
+first-cut text p zero e h = absurd (h .no-fit (fits-done [] .1 (0, refl)))
+first-cut text p (suc q) e h =
+    let one : suc q ≡ q + 1 = omega arith in
+    omega (arith, cut-sooner text q p e (subst (λ n. Bad (take n text)) one h))
 
-    go : (c : Bool) → ltb p₀ p ≡ c → scanned text .ending ≡ bad p
-    go true sooner =
-        let before : p₀ < p = ltb-true p₀ p sooner in
-        let all : p₀ + suc (p - suc p₀) ≡ p = omega arith in
-        let still : scanned (take p text) .ending ≡ bad p₀ = rw all at (cut-later text p₀ (p - suc p₀) e) in
-        absurd (ending-bad (take p text) p₀ still .no-fit (at .before))
-    go false later =
-        let same : p₀ ≡ p = omega (arith, ltb-false p₀ p later, cut-sooner text p p₀ e (at .behind)) in
-        e ∙ ap bad same
+pub bad-cuts : (text : List ℕ) (p : ℕ) → scanned text .ending ≡ bad p → (q : ℕ) → Bad (take q text) ↔ (p < q)
+bad-cuts text p e q = (
+  first-cut text p q e,
+  λ behind.
+      let all : p + suc (q - suc p) ≡ q = omega arith in
+      ending-bad (take q text) p (rw all at (cut-later text p (q - suc p) e)),
+)
 
 -- 9 at p: exactly
 pub bad-at-iff : (text : List ℕ) (p : ℕ) → (scanned text .ending ≡ bad p) ↔ (Bad text × BadAt text p)

@@ -1,5 +1,5 @@
 -- A name stays whole: what stands between two quotes, with no quote in it, is one field and exactly those bytes, whatever commas and line breaks it
--- holds. By what the scan makes of a body. Assumes nothing.
+-- holds. By what the scan makes of a body.
 use mathlib.Core.Path.{_≡_, refl, sym, ap, subst, _∙_}
 use mathlib.Core.List.{List, [], _∷_, _++_, append-assoc}
 use Prim.Native.Nat.{ℕ, suc, _+_, _<_}

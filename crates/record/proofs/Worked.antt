@@ -1,5 +1,5 @@
 -- Records worked by hand: every sentence of RFC 4180, section 2, the support case, and each refusal with its position. By computing the scan; some
--- of them again as facts of the grammar. Assumes nothing.
+-- of them again as facts of the grammar.
 use mathlib.Core.Path.{_≡_, refl, ap}
 use mathlib.Core.List.{List, [], _∷_, _++_}
 use Prim.Native.Nat.{ℕ}

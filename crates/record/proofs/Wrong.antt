@@ -1,5 +1,5 @@
 -- A scan that goes wrong does so at one byte: what stands before that byte is read, and what stands behind it matters only if the byte is a CR.
--- Byte by byte, for every state of the scan. Assumes nothing.
+-- Byte by byte, for every state of the scan.
 use mathlib.Core.Path.{_≡_, refl, ap, subst, _∙_}
 use mathlib.Core.Bool.{Bool, true, false, cond, _&&_}
 use mathlib.Core.List.{List, [], _∷_, _++_, append-assoc}
@@ -10,6 +10,7 @@ use lib.ListN.{length, take, length-append}
 use Rattle.record.specs.Grammar.{comma, quote, cr, lf}
 use Rattle.record.specs.Scan.{Reading, upTo, special, starts, stop, State, fresh, plain, quoted, closed, scan, scanned}
 use Rattle.record.specs.Scan.{done, bad, unclosed}
+use Rattle.record.proofs.Tests.{either}
 
 -- a byte and those behind it are a CR and an LF
 abbrev pub lineEnd : (b : ℕ) (s : List ℕ) → Bool
@@ -30,11 +31,6 @@ data Judged (s : List ℕ) (st : State) (at : ℕ) : Reading → Type 0 where
   read : {fields : List (ℕ × ℕ)} {next : ℕ} → Judged s st at (upTo fields (done next))
   notClosed : {fields : List (ℕ × ℕ)} {p : ℕ} → Judged s st at (upTo fields (unclosed p))
   wrong : {fields : List (ℕ × ℕ)} {p : ℕ} → Wrong s st at fields p → Judged s st at (upTo fields (bad p))
-
-either : (c : Bool) {x y : Reading} {s : List ℕ} {st : State} {at : ℕ} → (c ≡ true → Judged s st at x) → (c ≡ false → Judged s st at y)
-    → Judged s st at (cond c x y)
-either true t f = t refl
-either false t f = f refl
 
 -- fields before those of a reading
 abbrev pub ahead : (fields : List (ℕ × ℕ)) → Reading → Reading
@@ -67,11 +63,11 @@ stop-judged : (f : ℕ × ℕ) (at b : ℕ) (s : List ℕ) (st : State) → scan
     → ((t : List ℕ) → scan (b ∷ t) st at ≡ stop f at b t (scan t fresh (at + 1)))
     → Judged s fresh (at + 1) (scan s fresh (at + 1)) → Judged (b ∷ s) st at (stop f at b s (scan s fresh (at + 1)))
 stop-judged f at b s st none stops later =
-    either (eqb b comma)
+    either (Judged _ _ _) (eqb b comma)
     (λ e. step (f ∷ []) b s st fresh at (λ t. stops t ∙ rw e refl) later)
-    (λ no-comma. either (eqb b lf)
+    (λ no-comma. either (Judged _ _ _) (eqb b lf)
     (λ _. read)
-    (λ no-lf. either (lineEnd b s)
+    (λ no-lf. either (Judged _ _ _) (lineEnd b s)
     (λ _. read)
     (λ lone. wrong {p = at} record {
       before = [];
@@ -91,21 +87,21 @@ judged [] (plain a) at = read
 judged [] (quoted q) at = notClosed
 judged [] (closed q e) at = read
 judged (b ∷ s) fresh at =
-    either (eqb b quote)
+    either (Judged _ _ _) (eqb b quote)
     (λ e. step [] b s fresh (quoted at) at (λ t. rw e refl) (judged s (quoted at) (at + 1)))
-    (λ no-quote. either (special b)
+    (λ no-quote. either (Judged _ _ _) (special b)
     (λ e. stop-judged (at, at) at b s fresh refl (λ t. rw (e, no-quote) refl) (judged s fresh (at + 1)))
     (λ e. step [] b s fresh (plain at) at (λ t. rw (e, no-quote) refl) (judged s (plain at) (at + 1))))
 judged (b ∷ s) (plain a) at =
-    either (special b)
+    either (Judged _ _ _) (special b)
     (λ e. stop-judged (a, at) at b s (plain a) refl (λ t. rw e refl) (judged s fresh (at + 1)))
     (λ e. step [] b s (plain a) (plain a) at (λ t. rw e refl) (judged s (plain a) (at + 1)))
 judged (b ∷ s) (quoted q) at =
-    either (eqb b quote)
+    either (Judged _ _ _) (eqb b quote)
     (λ e. step [] b s (quoted q) (closed q at) at (λ t. rw e refl) (judged s (closed q at) (at + 1)))
     (λ e. step [] b s (quoted q) (quoted q) at (λ t. rw e refl) (judged s (quoted q) (at + 1)))
 judged (b ∷ s) (closed q f) at =
-    either (eqb b quote)
+    either (Judged _ _ _) (eqb b quote)
     (λ e. step [] b s (closed q f) (quoted q) at (λ t. rw e refl) (judged s (quoted q) (at + 1)))
     (λ e. stop-judged (q + 1, f) at b s (closed q f) refl (λ t. rw e refl) (judged s fresh (at + 1)))
 

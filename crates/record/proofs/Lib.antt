@@ -1,12 +1,4 @@
--- The laws on records.
-pub mod Complete
-pub mod Sound
-pub mod Refused
-pub mod Runs
-pub mod Stopping
-pub mod Spans
-pub mod Passing
-pub mod Inside
-pub mod Saying
-pub mod Laying
-pub mod Undoing
+-- The proofs on records, in three rooms.
+pub mod Laws
+pub mod Theorems
+pub mod Cases

@@ -1,6 +1,6 @@
 -- `behind` meets its promise: byte by byte, in the order of the tests.
 use borrow.Author.Needs.{needs}
-use Rattle.record.proofs.Stopping.{at-end, at-comma, at-lf, at-other, at-crlf, at-cr}
+use Rattle.record.proofs.Laws.Stopping.{at-end, at-comma, at-lf, at-other, at-crlf, at-cr}
 use Rattle.record.proofs.behind.Statement.{statement}
 use Rattle.record.proofs.behind.Tie as tie
 

@@ -4,7 +4,7 @@ use mathlib.Core.Path.{_≡_}
 use borrow.Author.Needs.{needs}
 use lib.ListN.{length, drop}
 use Rattle.record.specs.Steps.{run, isQuote}
-use Rattle.record.proofs.Runs.{run-block}
+use Rattle.record.proofs.Laws.Runs.{run-block}
 use Rattle.record.proofs.clear_blocks.Statement.{statement}
 use Rattle.record.proofs.clear_blocks.Tie as tie
 

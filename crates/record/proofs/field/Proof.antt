@@ -1,6 +1,6 @@
 -- `field` meets its promise: a quote opens a quoted field, which ends at the quote that closes it; any other ends where its run does.
 use borrow.Author.Needs.{needs}
-use Rattle.record.proofs.Spans.{found-quoted, found-unclosed, found-plain, quote-inside}
+use Rattle.record.proofs.Laws.Spans.{found-quoted, found-unclosed, found-plain, quote-inside}
 use Rattle.record.proofs.field.Statement.{statement}
 use Rattle.record.proofs.field.Tie as tie
 

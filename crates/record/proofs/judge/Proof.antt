@@ -1,6 +1,6 @@
 -- `judge` meets its promise: what the text comes to, and no place is kept.
 use borrow.Author.Needs.{needs}
-use Rattle.record.proofs.Saying.{judged-long, judged, place-fits}
+use Rattle.record.proofs.Laws.Saying.{judged-long, judged, place-fits}
 use Rattle.record.proofs.judge.Statement.{statement}
 use Rattle.record.proofs.judge.Tie as tie
 

@@ -1,6 +1,6 @@
 -- `keep` meets its promise: where there is no slot, setting one changes nothing.
 use borrow.Author.Needs.{needs}
-use Rattle.record.proofs.Passing.{beyond}
+use Rattle.record.proofs.Laws.Passing.{beyond}
 use Rattle.record.proofs.keep.Statement.{statement}
 use Rattle.record.proofs.keep.Tie as tie
 

@@ -1,7 +1,7 @@
 -- `lay` meets its promise: what was laid, with what is left of the kept places, is always the whole.
 use Prim.Native.Nat.{_-_}
 use borrow.Author.Needs.{needs}
-use Rattle.record.proofs.Laying.{Laying, none-laid, one-laid, all-laid}
+use Rattle.record.proofs.Laws.Laying.{Laying, none-laid, one-laid, all-laid}
 use Rattle.record.proofs.lay.Statement.{statement}
 use Rattle.record.proofs.lay.Tie as tie
 

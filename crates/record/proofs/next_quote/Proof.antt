@@ -4,7 +4,7 @@ use mathlib.Core.Path.{_≡_}
 use borrow.Author.Needs.{needs}
 use lib.ListN.{length, drop}
 use Rattle.record.specs.Steps.{run, isQuote}
-use Rattle.record.proofs.Runs.{quote-turn, quote-stop, run-over}
+use Rattle.record.proofs.Laws.Runs.{quote-turn, quote-stop, run-over}
 use Rattle.record.proofs.next_quote.Statement.{statement}
 use Rattle.record.proofs.next_quote.Tie as tie
 

@@ -3,8 +3,8 @@ use Prim.Native.Nat.{_-_}
 use native.Mathlib.Omega.{arith}
 use borrow.Author.Needs.{needs}
 use lib.ListN.{length}
-use Rattle.record.proofs.Passing.{Passed, none-passed, next-inside, start-fits, end-fits, next-fits, less-next, comma-passed}
-use Rattle.record.proofs.Passing.{end-verdict, end-starts, end-ends, bad-verdict, bad-starts, bad-ends, unclosed-verdict, unclosed-starts, unclosed-ends}
+use Rattle.record.proofs.Laws.Passing.{Passed, none-passed, next-inside, start-fits, end-fits, next-fits, less-next, comma-passed}
+use Rattle.record.proofs.Laws.Passing.{end-verdict, end-starts, end-ends, bad-verdict, bad-starts, bad-ends, unclosed-verdict, unclosed-starts, unclosed-ends}
 use Rattle.record.proofs.pass.Statement.{statement}
 use Rattle.record.proofs.pass.Tie as tie
 

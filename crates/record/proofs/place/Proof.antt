@@ -1,6 +1,6 @@
 -- `place` meets its promise: the text is gone through once more, or all that was kept is laid into the slots.
 use borrow.Author.Needs.{needs}
-use Rattle.record.proofs.Saying.{kept-fits, kept-fits-too, starts-laid, ends-laid}
+use Rattle.record.proofs.Laws.Saying.{kept-fits, kept-fits-too, starts-laid, ends-laid}
 use Rattle.record.proofs.place.Statement.{statement}
 use Rattle.record.proofs.place.Tie as tie
 

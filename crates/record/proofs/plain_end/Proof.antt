@@ -5,7 +5,7 @@ use borrow.Author.Needs.{needs}
 use lib.ListN.{length, drop}
 use Rattle.record.specs.Scan.{special}
 use Rattle.record.specs.Steps.{run}
-use Rattle.record.proofs.Runs.{run-turn, run-stop, run-over}
+use Rattle.record.proofs.Laws.Runs.{run-turn, run-stop, run-over}
 use Rattle.record.proofs.plain_end.Statement.{statement}
 use Rattle.record.proofs.plain_end.Tie as tie
 

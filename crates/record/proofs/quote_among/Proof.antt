@@ -4,7 +4,7 @@ use mathlib.Core.Path.{_≡_}
 use borrow.Author.Needs.{needs}
 use lib.ListN.{take, drop}
 use Rattle.record.specs.Steps.{any, isQuote}
-use Rattle.record.proofs.Runs.{any-none, any-one, block-all}
+use Rattle.record.proofs.Laws.Runs.{any-none, any-one, block-all}
 use Rattle.record.proofs.quote_among.Statement.{statement}
 use Rattle.record.proofs.quote_among.Tie as tie
 

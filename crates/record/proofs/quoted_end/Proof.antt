@@ -7,7 +7,7 @@ use lib.ListN.{length, drop}
 use Rattle.record.specs.Grammar.{quote}
 use Rattle.record.specs.Scan.{starts}
 use Rattle.record.specs.Steps.{bodyRun}
-use Rattle.record.proofs.Runs.{Quoted, quoted-first, quoted-again, quoted-less, pair-inside, quoted-stop, quoted-over}
+use Rattle.record.proofs.Laws.Runs.{Quoted, quoted-first, quoted-again, quoted-less, pair-inside, quoted-stop, quoted-over}
 use Rattle.record.proofs.quoted_end.Statement.{statement}
 use Rattle.record.proofs.quoted_end.Tie as tie
 

@@ -1,6 +1,6 @@
 -- `read` meets its promise: what is refused early; else the text is judged, and the rest is settled by what it comes to.
 use borrow.Author.Needs.{needs}
-use Rattle.record.proofs.Saying.{early-refused, short, zero-early, judged-kept}
+use Rattle.record.proofs.Laws.Saying.{early-refused, short, zero-early, judged-kept}
 use Rattle.record.proofs.read.Statement.{statement}
 use Rattle.record.proofs.read.Tie as tie
 

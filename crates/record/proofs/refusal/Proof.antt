@@ -1,7 +1,7 @@
 -- `refusal` meets its promise: the tests in their order.
 use borrow.Author.Needs.{needs}
 use Rattle.record.specs.Recorded.{early}
-use Rattle.record.proofs.Saying.{tests}
+use Rattle.record.proofs.Laws.Saying.{tests}
 use Rattle.record.proofs.refusal.Statement.{statement}
 use Rattle.record.proofs.refusal.Tie as tie
 

@@ -1,6 +1,6 @@
 -- `stands` meets its promise: inside the text the byte decides, behind it there is none.
 use borrow.Author.Needs.{needs}
-use Rattle.record.proofs.Runs.{stands-at, stands-none}
+use Rattle.record.proofs.Laws.Runs.{stands-at, stands-none}
 use Rattle.record.proofs.stands.Statement.{statement}
 use Rattle.record.proofs.stands.Tie as tie
 

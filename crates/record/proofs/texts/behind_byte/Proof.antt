@@ -1,6 +1,6 @@
 -- `behind_byte` meets its promise: a quote and another one are passed together.
 use borrow.Author.Needs.{needs}
-use Rattle.record.proofs.Undoing.{past-plain, past-pair, past-one}
+use Rattle.record.proofs.Laws.Undoing.{past-plain, past-pair, past-one}
 use Rattle.record.proofs.texts.behind_byte.Statement.{statement}
 use Rattle.record.proofs.texts.behind_byte.Tie as tie
 

@@ -1,6 +1,6 @@
 -- `field_text` meets its promise: the tests in their order, then the field's bytes are counted and written.
 use borrow.Author.Needs.{needs}
-use Rattle.record.proofs.Undoing.{too-long, no-order, no-end, no-room, size-fits, unquoted-there}
+use Rattle.record.proofs.Laws.Undoing.{too-long, no-order, no-end, no-room, size-fits, unquoted-there}
 use Rattle.record.proofs.texts.field_text.Statement.{statement}
 use Rattle.record.proofs.texts.field_text.Tie as tie
 

@@ -2,7 +2,7 @@
 use Prim.Native.Nat.{_-_}
 use borrow.Author.Needs.{needs}
 use lib.ListN.{length}
-use Rattle.record.proofs.Undoing.{Undoing, none-undone, one-undone, room-left, less-left, all-undone}
+use Rattle.record.proofs.Laws.Undoing.{Undoing, none-undone, one-undone, room-left, less-left, all-undone}
 use Rattle.record.proofs.texts.put_undone.Statement.{statement}
 use Rattle.record.proofs.texts.put_undone.Tie as tie
 

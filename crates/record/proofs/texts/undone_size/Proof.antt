@@ -2,7 +2,7 @@
 use Prim.Native.Nat.{_-_}
 use borrow.Author.Needs.{needs}
 use lib.ListN.{length}
-use Rattle.record.proofs.Undoing.{Counted, none-counted, one-counted, less-left, all-counted}
+use Rattle.record.proofs.Laws.Undoing.{Counted, none-counted, one-counted, less-left, all-counted}
 use Rattle.record.proofs.texts.undone_size.Statement.{statement}
 use Rattle.record.proofs.texts.undone_size.Tie as tie
 

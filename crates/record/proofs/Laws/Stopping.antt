@@ -9,7 +9,7 @@ use lib.ListN.{length, getD, drop}
 use Rattle.record.specs.declared.Stop.the-variants.{Comma, End, Bad}
 use Rattle.record.specs.Scan.{starts}
 use Rattle.record.specs.Steps.{stopOf}
-use Rattle.record.proofs.Runs.{left, none-left}
+use Rattle.record.proofs.Laws.Runs.{left, none-left}
 
 pub at-end : (s : List ℕ) (at : ℕ) → length s ≤ at → End at ≡ stopOf at (drop at s)
 at-end s at h = sym (ap (stopOf at) (none-left s at h))

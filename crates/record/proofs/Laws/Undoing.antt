@@ -15,7 +15,7 @@ use Rattle.record.specs.Undone.{undone, part}
 use Rattle.record.specs.declared.Told.{Told}
 use Rattle.record.specs.Recorded.{longest, told}
 use Rattle.record.specs.Unquoted.{unquoted, unquotes, Unquotes, past}
-use Rattle.record.proofs.Runs.{left, none-left, inside}
+use Rattle.record.proofs.Laws.Runs.{left, none-left, inside}
 
 -- what the code finds behind a byte
 module _ (s : List ℕ) (at : ℕ) where

@@ -24,7 +24,7 @@ use Rattle.record.specs.declared.Verdict.{Verdict}
 use Rattle.record.specs.declared.Told.{Told}
 use Rattle.record.specs.Scan.{scanned}
 use Rattle.record.specs.Steps.{numberOf, placeOf, tally, firsts, lasts, Judged}
-use Rattle.record.proofs.Inside.{place-inside}
+use Rattle.record.proofs.Laws.Inside.{place-inside}
 use Rattle.record.specs.Recorded.{longest, told, judges, firstOf, earlyTests, early, lateTests, places, records, Records}
 
 -- `judge`

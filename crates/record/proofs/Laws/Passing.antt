@@ -16,9 +16,9 @@ use Rattle.record.specs.declared.Stop.the-variants.{Comma, End, Bad}
 use Rattle.record.specs.declared.Verdict.{Verdict}
 use Rattle.record.specs.Scan.{Ending, Reading, upTo, done, bad, unclosed, more, fresh, scan, scanned}
 use Rattle.record.specs.Steps.{fieldAt, stopOf, numberOf, placeOf, comesTo, tally, firsts, lasts}
-use Rattle.record.proofs.Complete.{stops}
-use Rattle.record.proofs.Runs.{none-left}
-use Rattle.record.proofs.Spans.{afterField, field-scan, within, Within}
+use Rattle.record.proofs.Theorems.Complete.{stops}
+use Rattle.record.proofs.Laws.Runs.{none-left}
+use Rattle.record.proofs.Laws.Spans.{afterField, field-scan, within, Within}
 
 -- where there is no slot, nothing is set
 pub beyond : (slots : List ℕ) (k x : ℕ) → length slots ≤ k → slots ≡ set slots k x

@@ -1,14 +1,13 @@
--- Whatever the grammar reads, the scan reads so, rule by rule. Hence a text has one reading. Assumes nothing.
+-- Whatever the grammar reads, the scan reads so, rule by rule. Hence a text has one reading.
 use mathlib.Core.Path.{_≡_, refl, sym, ap, _∙_}
-use mathlib.Core.Bool.{Bool, true, false, cond}
+use mathlib.Core.Bool.{false}
 use mathlib.Core.List.{List, [], _∷_}
 use Prim.Native.Nat.{ℕ, _+_}
 use native.Mathlib.Omega.{arith}
 use borrow.Author.Tests.{ne-eqb}
-use lib.Dec.{eqb}
 use Rattle.record.specs.Grammar.{comma, quote, cr, lf, Textdata, NonEscaped, Body, Field, Fields, Ends, From, Reads}
 use Rattle.record.specs.Grammar.NonEscaped.{none, textdata}
-use Rattle.record.specs.Scan.{Reading, Ending, upTo, more, special, stop, State, fresh, plain, quoted, closed, scan, scanned, done}
+use Rattle.record.specs.Scan.{Reading, upTo, more, special, stop, fresh, plain, quoted, closed, scan, scanned, done}
 
 -- what is read where a field has ended
 abbrev pub stops : (s : List ℕ) (f : ℕ × ℕ) (at : ℕ) → Reading
@@ -18,12 +17,12 @@ stops (b ∷ s) f at = stop f at b s (scan s fresh (at + 1))
 pub text-not-special : (b : ℕ) → Textdata b → special b ≡ false
 text-not-special b t = simp (ne-eqb b comma (t .no-comma), ne-eqb b quote (t .no-quote), ne-eqb b cr (t .no-cr), ne-eqb b lf (t .no-lf))
 
-plain-runs : (at to a : ℕ) (s t : List ℕ) → NonEscaped at s to t → scan s (plain a) at ≡ scan t (plain a) to
+pub plain-runs : (at to a : ℕ) (s t : List ℕ) → NonEscaped at s to t → scan s (plain a) at ≡ scan t (plain a) to
 unfolding scan
 plain-runs at to a s t none = refl
 plain-runs at to a s t (textdata {b} {s = s′} x r) = rw (text-not-special b x) (plain-runs (at + 1) to a s′ t r)
 
-body-runs : (at to q : ℕ) (s t : List ℕ) → Body at s to t → scan s (quoted q) at ≡ scan t (quoted q) to
+pub body-runs : (at to q : ℕ) (s t : List ℕ) → Body at s to t → scan s (quoted q) at ≡ scan t (quoted q) to
 unfolding scan
 body-runs at to q s t Body.none = refl
 body-runs at to q s t (Body.byte {b} {s = s′} x r) = rw (ne-eqb b quote x) (body-runs (at + 1) to q s′ t r)
@@ -57,7 +56,7 @@ fresh-stops at s atComma = refl
 fresh-stops at s bareLf = refl
 fresh-stops at s crlf = refl
 
-field-read : (at a e to : ℕ) (s t : List ℕ) → Field at s a e to t → Stop t → scan s fresh at ≡ stops t (a, e) to
+pub field-read : (at a e to : ℕ) (s t : List ℕ) → Field at s a e to t → Stop t → scan s fresh at ≡ stops t (a, e) to
 unfolding scan
 field-read at a e to s t (Field.escaped {s = s′} r) at-stop = body-runs (at + 1) e at s′ (quote ∷ t) r ∙ closed-stops at e (e + 1) t at-stop
 field-read at a e to s t (Field.nonEscaped none) at-stop = fresh-stops at s at-stop

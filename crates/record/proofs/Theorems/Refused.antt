@@ -1,5 +1,5 @@
 -- What the refusals mean in the grammar: 10 exactly if the text does not fit and fits once a quote is put at its end, 9 exactly if neither fits.
--- By what one more quote makes of a scan. Assumes nothing.
+-- By what one more quote makes of a scan.
 use mathlib.Core.Path.{_≡_, refl, sym, ap, subst, _∙_}
 use mathlib.Core.Bool.{Bool, true, false, cond, _&&_}
 use mathlib.Core.List.{List, [], _∷_, _++_}
@@ -11,8 +11,8 @@ use Rattle.record.specs.Grammar.{comma, quote, cr, lf, Reads, Fits}
 use Rattle.record.specs.Scan.{Reading, Ending, upTo, more, special, starts, stop, State, fresh, plain, quoted, closed, scan, scanned}
 use Rattle.record.specs.Scan.{done, bad, unclosed}
 use Rattle.record.specs.Where.{Bad, Unclosed}
-use Rattle.record.proofs.Complete.{complete}
-use Rattle.record.proofs.Sound.{sound}
+use Rattle.record.proofs.Theorems.Complete.{complete}
+use Rattle.record.proofs.Theorems.Sound.{sound}
 
 -- what one more quote makes of a reading
 data Grown : Reading → Reading → Type 0 where
@@ -20,9 +20,9 @@ data Grown : Reading → Reading → Type 0 where
   stays : {fields : List (ℕ × ℕ)} {p : ℕ} → Grown (upTo fields (bad p)) (upTo fields (bad p))
   closes : {fields fields′ : List (ℕ × ℕ)} {p next : ℕ} → Grown (upTo fields (unclosed p)) (upTo fields′ (done next))
 
-either : (c : Bool) {x y x′ y′ : Reading} → Grown x x′ → Grown y y′ → Grown (cond c x y) (cond c x′ y′)
-either true p q = p
-either false p q = q
+choice-grown : (c : Bool) {x y x′ y′ : Reading} → Grown x x′ → Grown y y′ → Grown (cond c x y) (cond c x′ y′)
+choice-grown true p q = p
+choice-grown false p q = q
 
 more-grown : (f : ℕ × ℕ) {r r′ : Reading} → Grown r r′ → Grown (more f r) (more f r′)
 more-grown f any = any
@@ -34,11 +34,11 @@ crlf-grown : (f : ℕ × ℕ) (at : ℕ) (s : List ℕ) (is : Bool)
     (cond (is && starts lf (s ++ (quote ∷ []))) (upTo (f ∷ []) (done (at + 2))) (upTo (f ∷ []) (bad at)))
 crlf-grown f at s false = stays
 crlf-grown f at [] true = stays
-crlf-grown f at (b ∷ s) true = either (eqb b lf) any stays
+crlf-grown f at (b ∷ s) true = choice-grown (eqb b lf) any stays
 
 stop-grown : (f : ℕ × ℕ) (at b : ℕ) (s : List ℕ) {later later′ : Reading} → Grown later later′
     → Grown (stop f at b s later) (stop f at b (s ++ (quote ∷ [])) later′)
-stop-grown f at b s g = either (eqb b comma) (more-grown f g) (either (eqb b lf) any (crlf-grown f at s (eqb b cr)))
+stop-grown f at b s g = choice-grown (eqb b comma) (more-grown f g) (choice-grown (eqb b lf) any (crlf-grown f at s (eqb b cr)))
 
 grown : (s : List ℕ) (st : State) (at : ℕ) → Grown (scan s st at) (scan (s ++ (quote ∷ [])) st at)
 unfolding scan
@@ -47,11 +47,11 @@ grown [] (plain a) at = any
 grown [] (quoted q) at = closes
 grown [] (closed q e) at = any
 grown (b ∷ s) fresh at =
-    either (eqb b quote) (grown s (quoted at) (at + 1))
-    (either (special b) (stop-grown (at, at) at b s (grown s fresh (at + 1))) (grown s (plain at) (at + 1)))
-grown (b ∷ s) (plain a) at = either (special b) (stop-grown (a, at) at b s (grown s fresh (at + 1))) (grown s (plain a) (at + 1))
-grown (b ∷ s) (quoted q) at = either (eqb b quote) (grown s (closed q at) (at + 1)) (grown s (quoted q) (at + 1))
-grown (b ∷ s) (closed q e) at = either (eqb b quote) (grown s (quoted q) (at + 1)) (stop-grown (q + 1, e) at b s (grown s fresh (at + 1)))
+    choice-grown (eqb b quote) (grown s (quoted at) (at + 1))
+    (choice-grown (special b) (stop-grown (at, at) at b s (grown s fresh (at + 1))) (grown s (plain at) (at + 1)))
+grown (b ∷ s) (plain a) at = choice-grown (special b) (stop-grown (a, at) at b s (grown s fresh (at + 1))) (grown s (plain a) (at + 1))
+grown (b ∷ s) (quoted q) at = choice-grown (eqb b quote) (grown s (closed q at) (at + 1)) (grown s (quoted q) (at + 1))
+grown (b ∷ s) (closed q e) at = choice-grown (eqb b quote) (grown s (quoted q) (at + 1)) (stop-grown (q + 1, e) at b s (grown s fresh (at + 1)))
 
 -- a reading is its fields and its ending
 whole : (r : Reading) (ending : Ending) → r .ending ≡ ending → r ≡ upTo (r .fields) ending

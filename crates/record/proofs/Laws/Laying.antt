@@ -6,7 +6,7 @@ use native.Mathlib.Numerals.{add-one}
 use native.Mathlib.Omega.{arith}
 use lib.ListN.{length, getD, take, drop, set, length-set, drop-of-length-le}
 use lib.Seq.{sets, length-take-le, getD-take}
-use Rattle.record.proofs.Runs.{left}
+use Rattle.record.proofs.Laws.Runs.{left}
 
 -- the slots after k of the first `count` kept numbers were laid
 pub record Laying (kept : List ℕ) (count : ℕ) (slots₀ slots : List ℕ) (k : ℕ) : Type 0 where

@@ -14,8 +14,8 @@ use Rattle.record.specs.declared.Found.the-variants.{Field, Unclosed}
 use Rattle.record.specs.Grammar.{quote}
 use Rattle.record.specs.Scan.{Reading, upTo, unclosed, special, starts, fresh, plain, quoted, closed, scan}
 use Rattle.record.specs.Steps.{run, bodyRun, quotedAt, plainAt, fieldAt}
-use Rattle.record.proofs.Complete.{stops}
-use Rattle.record.proofs.Runs.{left, stands-at, inside, run-short}
+use Rattle.record.proofs.Theorems.Complete.{stops}
+use Rattle.record.proofs.Laws.Runs.{left, stands-at, inside, run-short}
 
 -- a field that is not quoted: k bytes of it, and what stands behind
 abbrev behindPlain : (s : List ℕ) (a at k : ℕ) → Reading

@@ -1,14 +1,15 @@
--- Whatever the scan reads, the grammar reads so: byte by byte, by what a reading means in each state of the scan. Assumes nothing.
-use mathlib.Core.Path.{_≡_, refl, sym, ap, subst, _∙_}
-use mathlib.Core.Bool.{Bool, true, false, cond, _&&_, _||_}
+-- Whatever the scan reads, the grammar reads so: byte by byte, by what a reading means in each state of the scan.
+use mathlib.Core.Path.{_≡_, refl, subst}
+use mathlib.Core.Bool.{Bool, true, false, _&&_, _||_}
 use mathlib.Core.List.{List, [], _∷_}
 use Prim.Native.Nat.{ℕ, _+_}
 use native.Mathlib.Omega.{arith}
 use borrow.Author.Tests.{eqb-true, eqb-false}
 use lib.Dec.{eqb}
 use Rattle.record.specs.Grammar.{comma, quote, cr, lf, Textdata, NonEscaped, Body, Field, Fields, Ends, From, Reads}
-use Rattle.record.specs.Scan.{Reading, Ending, upTo, more, special, starts, stop, State, fresh, plain, quoted, closed, scan, scanned}
+use Rattle.record.specs.Scan.{Reading, upTo, more, special, starts, stop, State, fresh, plain, quoted, closed, scan, scanned}
 use Rattle.record.specs.Scan.{done, bad, unclosed}
+use Rattle.record.proofs.Laws.Tests.{either}
 
 -- what follows a field that has ended
 pub data After : (f : ℕ × ℕ) (at : ℕ) (s : List ℕ) (fields : List (ℕ × ℕ)) (next : ℕ) → Type 0 where
@@ -34,10 +35,6 @@ when-map : {o : Reading} (P Q : List (ℕ × ℕ) → ℕ → Type 0) → ((fiel
 when-map P Q f (read x) = read (f _ _ x)
 when-map P Q f notRead = notRead
 when-map P Q f notClosed = notClosed
-
-either : (c : Bool) {x y : Reading} {P : List (ℕ × ℕ) → ℕ → Type 0} → (c ≡ true → When P x) → (c ≡ false → When P y) → When P (cond c x y)
-either true t f = t refl
-either false t f = f refl
 
 or-none : (a b : Bool) → a || b ≡ false → (a ≡ false) × (b ≡ false)
 or-none true b e = absurd (let z : _≡_ {A = ℕ} 0 1 = cc in omega arith)
@@ -70,11 +67,11 @@ crlf-ends at (b ∷ s) e = rw (eqb-true b lf e) Ends.crlf
 
 stop-after : (f : ℕ × ℕ) (at b : ℕ) (s : List ℕ) (later : Reading) → When (From (at + 1) s) later → When (After f at (b ∷ s)) (stop f at b s later)
 stop-after f at b s later x =
-    either (eqb b comma)
+    either (When _) (eqb b comma)
     (λ e. rw (eqb-true b comma e) (more-after f at s later x))
-    (λ _. either (eqb b lf)
+    (λ _. either (When _) (eqb b lf)
     (λ e. rw (eqb-true b lf e) (read (ends Ends.bareLf)))
-    (λ _. either (eqb b cr && starts lf s)
+    (λ _. either (When _) (eqb b cr && starts lf s)
     (λ e. let x = and-both (eqb b cr) _ e in rw (eqb-true b cr (x .0)) (read (ends (crlf-ends at s (x .1)))))
     (λ _. notRead)))
 
@@ -118,23 +115,23 @@ scan-means [] (quoted a) at = notClosed
 scan-means [] (closed a e) at = read (inClosed (ends Ends.ofText))
 scan-means (b ∷ s) fresh at =
     let later : When (From (at + 1) s) (scan s fresh (at + 1)) = when-map _ _ (λ fields next. unfresh (at + 1) next s fields) (scan-means s fresh (at + 1)) in
-    either (eqb b quote)
+    either (When _) (eqb b quote)
     (λ e. rw (eqb-true b quote e) (when-map _ _ (λ fields next. open-quote at next s fields) (scan-means s (quoted at) (at + 1))))
-    (λ _. either (special b)
+    (λ _. either (When _) (special b)
     (λ _. when-map _ _ (λ fields next x. inFresh (then _ _ _ _ _ _ _ _ (Field.nonEscaped NonEscaped.none) x)) (stop-after (at, at) at b s _ later))
     (λ e. when-map _ _ (λ fields next. first-text at next s fields b (not-special-text b e)) (scan-means s (plain at) (at + 1))))
 scan-means (b ∷ s) (plain a) at =
     let later : When (From (at + 1) s) (scan s fresh (at + 1)) = when-map _ _ (λ fields next. unfresh (at + 1) next s fields) (scan-means s fresh (at + 1)) in
-    either (special b)
+    either (When _) (special b)
     (λ _. when-map _ _ (λ fields next x. inPlain NonEscaped.none x) (stop-after (a, at) at b s _ later))
     (λ e. when-map _ _ (λ fields next. more-text at next s fields a b (not-special-text b e)) (scan-means s (plain a) (at + 1)))
 scan-means (b ∷ s) (quoted q) at =
-    either (eqb b quote)
+    either (When _) (eqb b quote)
     (λ e. rw (eqb-true b quote e) (when-map _ _ (λ fields next. close-quote at next s fields q) (scan-means s (closed q at) (at + 1))))
     (λ e. when-map _ _ (λ fields next. more-body at next s fields q b (eqb-false b quote e)) (scan-means s (quoted q) (at + 1)))
 scan-means (b ∷ s) (closed q e) at =
     let later : When (From (at + 1) s) (scan s fresh (at + 1)) = when-map _ _ (λ fields next. unfresh (at + 1) next s fields) (scan-means s fresh (at + 1)) in
-    either (eqb b quote)
+    either (When _) (eqb b quote)
     (λ e. rw (eqb-true b quote e) (when-map _ _ (λ fields next. again) (scan-means s (quoted q) (at + 1))))
     (λ _. when-map _ _ (λ fields next. inClosed) (stop-after (q + 1, e) at b s _ later))
 

@@ -1,0 +1,2 @@
+-- Records worked out byte by byte.
+pub mod Worked

@@ -1,0 +1,15 @@
+-- What the proofs cite: of runs of bytes, fields and places, as the code finds them, and of the scan.
+pub mod Tests
+pub mod Wrong
+pub mod Opens
+pub mod Local
+pub mod RoundTrip
+pub mod Quick
+pub mod Runs
+pub mod Spans
+pub mod Stopping
+pub mod Passing
+pub mod Laying
+pub mod Inside
+pub mod Saying
+pub mod Undoing

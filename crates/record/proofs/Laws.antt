@@ -11,5 +11,7 @@ pub mod Stopping
 pub mod Passing
 pub mod Laying
 pub mod Inside
+pub mod Order
 pub mod Saying
 pub mod Undoing
+pub mod Kept

@@ -4,5 +4,6 @@ pub mod Complete
 pub mod Refused
 pub mod Where
 pub mod Decided
+pub mod Numbers
 pub mod Whole
 pub mod Bytes

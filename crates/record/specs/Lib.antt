@@ -7,3 +7,4 @@ pub mod Where
 pub mod Steps
 pub mod Recorded
 pub mod Unquoted
+pub mod Numbers

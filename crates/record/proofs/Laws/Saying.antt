@@ -25,6 +25,7 @@ use Rattle.record.specs.declared.Told.{Told}
 use Rattle.record.specs.Scan.{scanned}
 use Rattle.record.specs.Steps.{numberOf, placeOf, tally, firsts, lasts, Judged}
 use Rattle.record.proofs.Laws.Inside.{place-inside}
+use Rattle.record.proofs.Laws.Order.{Above, stopped, passed, None, none-holds}
 use Rattle.record.specs.Recorded.{longest, told, judges, firstOf, earlyTests, early, lateTests, places, records, Records}
 
 -- `judge`
@@ -39,44 +40,7 @@ judged text v r h is e = rw (le-ltb _ _ h) (e ∙ ap (λ (v : Verdict). told (v 
 -- the tests before the text is looked at
 pub ruleset tests = Refusals.refusals
 
--- tests that are passed, and one that stops
-abbrev Above : List (Bool × ℕ) → Type 0
-Above [] = Unit {0}
-Above (t ∷ ts) = (t .1 ≡ 0 → ⊥) × Above ts
-
-stopped : {A : Type 0} (refuse : ℕ → A) (ts rest : List (Bool × ℕ)) (d : A) (m : ℕ) → m ≡ firstOf (λ m. m) ts 0 → (m ≡ 0 → ⊥)
-    → firstOf refuse (ts ++ rest) d ≡ refuse m
-stopped refuse [] rest d m e no-zero = absurd (no-zero e)
-stopped refuse (t ∷ ts) rest d m e no-zero = go (t .0) refl (λ e. stopped refuse ts rest d m e no-zero)
-  where
-    go : (c : Bool) → t .0 ≡ c → (m ≡ firstOf (λ m. m) ts 0 → firstOf refuse (ts ++ rest) d ≡ refuse m) → cond (t .0) (refuse (t .1)) (firstOf refuse (ts ++ rest) d) ≡ refuse m
-    go true b later = rw b (ap refuse (sym (e ∙ rw b refl)))
-    go false b later = rw b (later (e ∙ rw b refl))
-
-passed : {A : Type 0} (refuse : ℕ → A) (ts rest : List (Bool × ℕ)) (d : A) (m : ℕ) → m ≡ firstOf (λ m. m) ts 0 → m ≡ 0 → Above ts
-    → firstOf refuse (ts ++ rest) d ≡ firstOf refuse rest d
-passed refuse [] rest d m e zero above = refl
-passed refuse (t ∷ ts) rest d m e zero above = go (t .0) refl (λ e. passed refuse ts rest d m e zero (above .1))
-  where
-    go : (c : Bool) → t .0 ≡ c → (m ≡ firstOf (λ m. m) ts 0 → firstOf refuse (ts ++ rest) d ≡ firstOf refuse rest d)
-        → cond (t .0) (refuse (t .1)) (firstOf refuse (ts ++ rest) d) ≡ firstOf refuse rest d
-    go true b later = absurd (above .0 (sym (e ∙ rw b refl) ∙ zero))
-    go false b later = rw b (later (e ∙ rw b refl))
-
--- where all are passed, none holds
-abbrev None : List (Bool × ℕ) → Type 0
-None [] = Unit {0}
-None (t ∷ ts) = (t .0 ≡ false) × None ts
-
-none-holds : (ts : List (Bool × ℕ)) (m : ℕ) → m ≡ firstOf (λ m. m) ts 0 → m ≡ 0 → Above ts → None ts
-none-holds [] m e zero above = tt
-none-holds (t ∷ ts) m e zero above = go (t .0) refl (λ e. none-holds ts m e zero (above .1))
-  where
-    go : (c : Bool) → t .0 ≡ c → (m ≡ firstOf (λ m. m) ts 0 → None ts) → (t .0 ≡ false) × None ts
-    go true b later = absurd (above .0 (sym (e ∙ rw b refl) ∙ zero))
-    go false b later = (b, later (e ∙ rw b refl))
-
-not-held : (n : ℕ) → holding n ≡ false → n ≡ 0
+pub not-held : (n : ℕ) → holding n ≡ false → n ≡ 0
 not-held n e = eqb-true n 0 (go (eqb n 0) e)
   where
     go : (b : Bool) → not b ≡ false → b ≡ true

@@ -7,3 +7,4 @@ pub mod Decided
 pub mod Numbers
 pub mod Whole
 pub mod Bytes
+pub mod Small

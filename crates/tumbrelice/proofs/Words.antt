@@ -70,7 +70,7 @@ pub heard-at : (m x k word : ℕ) (t : Tray) (u : Cursor) (o : Outcome) → Word
     → record { number = m; value = x; moves = k; tray = t; cursor = u } ≡ o → heardAt word t u ≡ o
 heard-at m x k word t u o w e = cc
 
-heard2-is : (m x k word : ℕ) (t t2 : Tray) (o : Outcome2) → Worded m x k word
+pub heard2-is : (m x k word : ℕ) (t t2 : Tray) (o : Outcome2) → Worded m x k word
     → record { number = m; value = x; moves = k; first = t; second = t2; cursor = nowhere } ≡ o → heard2 word t t2 ≡ o
 heard2-is m x k word t t2 o w e = cc
 

@@ -1,2 +1,3 @@
 -- What the promises of the exported calls cite.
 pub mod Heard
+pub mod HeardText

@@ -4,6 +4,7 @@ pub mod rings; // rings.rt: the calls on a ring
 pub mod vectors; // vectors.rt: the calls on a vector
 pub mod two; // two.rt: the calls on two rings
 pub mod walks; // walks.rt: a cursor over a ring
+pub mod records; // records.rt: a record of comma-separated text
 
 use ring::Ring;
 use vector::Vector;

@@ -1,0 +1,30 @@
+-- How a caller in C hears the calls on a record of comma-separated text, and what they promise.
+use Prim.Native.Nat.{ℕ}
+use mathlib.Core.Path.{_≡_}
+use mathlib.Core.List.{List}
+use Rattle.table.specs.Tray.{Tray}
+use Rattle.record.specs.declared.Told.{Told}
+use Rattle.record.specs.Recorded.{told, judges, records}
+use Rattle.record.specs.Unquoted.{unquoted, unquotes}
+use Rattle.tumbrelice.specs.Heard.{valueIn, freeIn, movesIn, numberIn, heard2}
+
+-- of a record read onto two vectors: its word and both vectors afterwards are what `records` says, and the free bits are 0
+pub record HearsRecord (text : List ℕ) (before before2 : Tray) (word : ℕ) (after after2 : Tray) : Type 0 where
+  pub row : heard2 word after after2 ≡ records text before before2
+  pub free : freeIn word ≡ 0
+
+-- a word as an answer on a text alone
+abbrev pub heardTold : (word : ℕ) → Told
+heardTold word = told (numberIn word) (valueIn word)
+
+-- of a text that is judged
+pub record HearsTold (text : List ℕ) (word : ℕ) : Type 0 where
+  pub row : heardTold word ≡ judges text
+  pub still : movesIn word ≡ 0
+  pub free : freeIn word ≡ 0
+
+-- of a field's text, which is written to `out`
+pub record HearsUndone (text : List ℕ) (start end : ℕ) (out : List ℕ) (word : ℕ) (after : List ℕ) : Type 0 where
+  pub row : unquoted (heardTold word) after ≡ unquotes text start end out
+  pub still : movesIn word ≡ 0
+  pub free : freeIn word ≡ 0

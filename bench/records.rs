@@ -325,7 +325,7 @@ fn head(sides: &[Side]) -> String {
     format!("| {} |\n|{}", cells.join(" | "), "---|".repeat(cells.len()))
 }
 
-// The rounds of all passes together: a text takes as long as a thousand batches of the other rows, so a pass has a tenth of their rounds.
+// The rounds of all passes together: a text takes as long as some hundred batches of the other rows, so a pass has a tenth of their rounds.
 pub fn rounds_of(rounds: usize) -> usize {
     rounds.div_ceil(10) * PASSES
 }

@@ -1,10 +1,13 @@
 // Measures the proved calls against Rust's own containers, side by side in one run: each round times a batch on one side and then the same batch
-// on the other, and the rows are gone through several times. Prints the ratios and writes them, with what falls short and why, to a file.
+// on the other, and the rows are gone through several times. Then records, against other readers of them. Prints the ratios and writes them, with what
+// falls short and why, to a file. With BENCH_ONLY=records the containers are left out, and nothing is written.
 #[cfg(arrayvec)]
 mod array;
 mod ours;
 mod place;
+mod records;
 mod rows;
+mod texts;
 mod theirs;
 mod work;
 
@@ -106,9 +109,8 @@ fn said(name: &str) -> String {
     std::env::var(name).unwrap_or_else(|_| "not said".into())
 }
 
-fn main() {
-    let args: Vec<String> = std::env::args().collect();
-    let rounds: usize = args.get(1).and_then(|a| a.parse().ok()).unwrap_or(201);
+// The table of the containers, and what of it falls short.
+fn containers(rounds: usize) -> (String, String) {
     let rows = rows();
     let mut times: Vec<[Times; 3]> = rows.iter().map(|_| Default::default()).collect();
     for _ in 0..PASSES {
@@ -125,6 +127,24 @@ fn main() {
         writeln!(table, "{}", f.line()).unwrap();
         f.short().into_iter().for_each(|line| writeln!(short, "{line}").unwrap());
     }
+    (table, short)
+}
+
+fn records(rounds: usize) -> String {
+    let table = records::table(rounds);
+    println!("{table}");
+    table
+}
+
+fn main() {
+    let args: Vec<String> = std::env::args().collect();
+    let rounds: usize = args.get(1).and_then(|a| a.parse().ok()).unwrap_or(201);
+    if std::env::var("BENCH_ONLY").is_ok_and(|only| only == "records") {
+        records(rounds);
+        return;
+    }
+    let (table, short) = containers(rounds);
+    let records = records(rounds);
     let Some(file) = args.get(2) else { return };
     let paper = include_str!("paper.md")
         .replace("{processor}", &said("BENCH_PROCESSOR"))
@@ -133,8 +153,12 @@ fn main() {
         .replace("{built}", &said("BENCH_BUILT"))
         .replace("{plain}", &said("BENCH_PLAIN"))
         .replace("{arrayvec}", &said("BENCH_ARRAYVEC"))
+        .replace("{csv-core}", &said("BENCH_CSV_CORE"))
+        .replace("{libcsv}", &said("BENCH_LIBCSV"))
         .replace("{rounds}", &(rounds * PASSES).to_string())
         .replace("{table}", table.trim_end())
-        .replace("{short}", short.trim_end());
+        .replace("{short}", short.trim_end())
+        .replace("{rounds of records}", &records::rounds_of(rounds).to_string())
+        .replace("{records}", &records);
     std::fs::write(file, paper).expect("the paper cannot be written");
 }

@@ -281,14 +281,16 @@ fn refusal(cap: usize, len: usize, room: usize, count: usize, size: usize) -> u8
     0
 }
 
-// The kept places go into the slots.
-fn lay(slots: &mut [u32], kept: &[u32], count: usize)
-    requires { ⌜ (count ≤ length (now slots)) × (count ≤ length (now kept)) ⌝ }
-    ensures { λ _. ⌜ now (slots .exit) ≡ sets (now (slots .entry)) 0 (take count (now (kept .entry))) ⌝ }
+// The kept places go into the slots, in one loop: two block moves of so few numbers take longer.
+fn lay(slots: &mut [u32], theirs: &mut [u32], begins: &[u32], ends: &[u32], count: usize)
+    requires { ⌜ (count ≤ length (now slots)) × (count ≤ length (now theirs)) × (count ≤ length (now begins)) × (count ≤ length (now ends)) ⌝ }
+    ensures { λ _. ⌜ now (slots .exit) ≡ sets (now (slots .entry)) 0 (take count (now (begins .entry))) ⌝ }
+    ensures { λ _. ⌜ now (theirs .exit) ≡ sets (now (theirs .entry)) 0 (take count (now (ends .entry))) ⌝ }
 {
     let mut k = 0;
     while k < count {
-        slots[k] = kept[k];
+        slots[k] = begins[k];
+        theirs[k] = ends[k];
         k += 1;
     }
 }
@@ -311,8 +313,7 @@ fn place(
         pass(text, slots, theirs);
         return;
     }
-    lay(slots, begins, count);
-    lay(theirs, ends, count);
+    lay(slots, theirs, begins, ends, count);
 }
 
 // The text was judged: it is refused for what it says or for want of room, or the places go into the slots.

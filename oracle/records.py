@@ -17,7 +17,7 @@ LIMIT = 65535  # the bytes of a text
 SLOTS = 4096   # the slots of a vector
 
 PLAIN = rb'[^,"\r\n]*'
-BODY = rb'(?:[^"]|"")*'
+BODY = rb'[^"]*(?:""[^"]*)*'
 FIELD = rb'(?:"%b"|%b)' % (BODY, PLAIN)
 FIELDS = rb"%b(?:,%b)*" % (FIELD, FIELD)
 RECORD = re.compile(rb"(%b)(?:\r\n|\n|\Z)" % FIELDS)

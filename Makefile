@@ -1,4 +1,4 @@
-# Two commands: `make test` is the gate, `make run` shows the program `tray` on paper 01's listing. `make compare` and `make bench` hold the calls against Rust's, and are no part of the gate.
+# Two commands: `make test` is the gate, `make run` shows the program `tray` on paper 01's listing. `make compare` and `make bench` hold the calls against Rust's (those on records against Python's), and are no part of the gate.
 .PHONY: test run bench compare
 
 # First the papers and the layout, then everything is proved from nothing: tools/ci runs rt ci and lets its 'N passed, M failed'
@@ -25,7 +25,8 @@ run:
 bench:
 	@bench/run
 
-# The program replay against Rust's own containers, with rustc: every short case, then random ones. MILLIONS=1 makes it shorter.
+# The program replay against Rust's own containers, with rustc: every short case, then random ones. Then the calls on records against a regular
+# expression and Python's csv. MILLIONS=1 makes it shorter.
 MILLIONS ?= 5
 compare:
 	@MILLIONS=$(MILLIONS) oracle/run

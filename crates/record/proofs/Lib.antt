@@ -9,6 +9,7 @@ pub mod Where
 pub mod Local
 pub mod Decided
 pub mod RoundTrip
+pub mod Rewritten
 pub mod Whole
 pub mod Bytes
 pub mod Quick

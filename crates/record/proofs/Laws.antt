@@ -3,7 +3,6 @@ pub mod Tests
 pub mod Wrong
 pub mod Opens
 pub mod Local
-pub mod RoundTrip
 pub mod Quick
 pub mod Runs
 pub mod Spans

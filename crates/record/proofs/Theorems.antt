@@ -5,6 +5,8 @@ pub mod Refused
 pub mod Where
 pub mod Decided
 pub mod Numbers
+pub mod RoundTrip
+pub mod Rewritten
 pub mod Whole
 pub mod Bytes
 pub mod Small

@@ -67,7 +67,7 @@ body-local {at} {to} (Body.twoQuotes r) =
       again = λ others. Body.twoQuotes (w .again others);
     }
 
-field-local : {at a e to : ℕ} {s t : List ℕ} → Field at s a e to t → Clean (λ s t. Field at s a e to t) at s to t
+pub field-local : {at a e to : ℕ} {s t : List ℕ} → Field at s a e to t → Clean (λ s t. Field at s a e to t) at s to t
 field-local {at} (Field.escaped {e = e} {t = t} r) =
     let w = body-local r in
     let place : e ≡ at + 1 + length (w .bytes) = w .place in

@@ -11,9 +11,11 @@ use lib.Dec.{eqb}
 use lib.ListN.{length, take, getD, length-append, List·getD-append}
 use lib.Seq.{take-at, getD-at}
 use Rattle.record.specs.Grammar.{cr, lf, Fields, Ends, From, Reads}
-use Rattle.record.specs.Scan.{upTo, starts, fresh, scanned, done, bad}
+use Rattle.record.specs.Scan.{Reading, upTo, starts, fresh, scanned, done, bad}
+use Rattle.record.specs.Where.{Bad, BadAt}
 use Rattle.record.proofs.Theorems.Complete.{complete}
 use Rattle.record.proofs.Theorems.Sound.{sound}
+use Rattle.record.proofs.Theorems.Where.{bad-at-iff, bad-only}
 use Rattle.record.proofs.Laws.Wrong.{Wrong, lineEnd, wrong-at, grows}
 use Rattle.record.proofs.Laws.Local.{final, final-append, fields-local}
 
@@ -177,6 +179,13 @@ bad-before text p others e alone =
 pub bad-decided : (text : List ℕ) (p : ℕ) (others : List ℕ) → scanned text .ending ≡ bad p → (p + 1 ≡ length text → getD text p 0 ≡ cr → ⊥)
     → scanned (text ++ others) ≡ scanned text
 bad-decided text p others e alone = bad-before text p others e (λ last is-cr. absurd (alone last is-cr))
+
+-- the same by the grammar alone
+pub bad-stays : (text : List ℕ) (p : ℕ) (others : List ℕ) → Bad text → BadAt text p → (p + 1 ≡ length text → getD text p 0 ≡ cr → ⊥)
+    → Bad (text ++ others) × BadAt (text ++ others) p
+bad-stays text p others h at alone =
+    let e = bad-only text p h at in
+    bad-at-iff (text ++ others) p .0 (ap (λ (r : Reading). r .ending) (bad-decided text p others e alone) ∙ e)
 
 -- a CR at the end of the text, once an LF stands behind it, ends the record whose fields were read up to there
 nothing : (s : List ℕ) → length s ≡ 0 → s ≡ []

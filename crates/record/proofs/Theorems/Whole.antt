@@ -14,7 +14,7 @@ use Rattle.record.proofs.Theorems.Complete.{Stop, stops, field-read, co
 use Rattle.record.proofs.Laws.Wrong.{ahead}
 use Rattle.record.proofs.Laws.Opens.{fields-ahead, begins-ahead}
 use Rattle.record.proofs.Laws.Local.{fields-local}
-use Rattle.record.proofs.Laws.RoundTrip.{part-at, undone-byte}
+use Rattle.record.proofs.Theorems.RoundTrip.{part-at, undone-byte}
 
 -- no byte of a name is a quote
 abbrev pub Unquoted : (name : List ℕ) → Type 0

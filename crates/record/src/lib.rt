@@ -172,16 +172,16 @@ fn behind(text: &[u8], at: usize) -> Stop
         return Stop::End(at);
     }
     let b = text[at];
+    let second = at + 1;
     if b == 44 {
         return Stop::Comma;
     }
     if b == 10 {
-        return Stop::End(at + 1);
+        return Stop::End(second);
     }
     if b != 13 {
         return Stop::Bad;
     }
-    let second = at + 1;
     if stands(text, second, 10) {
         return Stop::End(second + 1);
     }

@@ -29,12 +29,12 @@ fn undone_size(part: &[u8]) -> usize
     ensures { λ r. ⌜ r ≡ length (undone (now (part .entry))) ⌝ }
 {
     let mut at = 0;
-    let mut count = 0;
+    let mut size = 0;
     while at < part.len() {
         at = behind_byte(part, at);
-        count += 1;
+        size += 1;
     }
-    count
+    size
 }
 
 // They are written to the start of the lent text.

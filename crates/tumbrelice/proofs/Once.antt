@@ -3,16 +3,21 @@
 use Prim.Native.Nat.{ℕ}
 use native.Mathlib.Omega.{arith}
 use mathlib.Core.Path.{_≡_, sym, ap, _∙_}
+use mathlib.Core.List.{List}
 use contract.Lifetimes.{Lfts}
 use denote.Ref.{now}
 use Rattle.slots.specs.Layout.{Kind}
 use Rattle.slots.proofs.Twice.{Twice}
 use Rattle.table.specs.Tray.{Tray, Cursor}
 use Rattle.table.specs.Calls.{Call, Call2, Look}
+use Rattle.record.specs.declared.Told.{Told}
+use Rattle.record.specs.Unquoted.{Unquoted}
 use Rattle.tumbrelice.specs.Heard.{valueIn, freeIn, movesIn, numberIn, Hears, HearsAt, Hears2, ringOf, vectorOf, cursorOf}
+use Rattle.tumbrelice.specs.HeardText.{HearsRecord, heardTold}
 use Rattle.tumbrelice.proofs.rings as rings
 use Rattle.tumbrelice.proofs.vectors as vectors
 use Rattle.tumbrelice.proofs.two as two
+use Rattle.tumbrelice.proofs.records as records
 use Rattle.tumbrelice.proofs.walks as walks
 
 -- the three numbers of a word make it up, where its free bits are 0
@@ -34,6 +39,15 @@ one2 : {k k2 : Kind} {call : Call2} {b b2 : Tray} (w w′ : ℕ) (t t′ t2 t2�
 one2 w w′ t t′ t2 t2′ p q =
     let same = p .row ∙ sym (q .row) in
     (one-word w w′ (ap (λ o. o .number) same) (ap (λ o. o .value) same) (ap (λ o. o .moves) same) (p .free) (q .free), ap (λ o. o .first) same, ap (λ o. o .second) same)
+
+-- of the calls on a record
+one-record : {text : List ℕ} {b b2 : Tray} (w w′ : ℕ) (t t′ t2 t2′ : Tray) → HearsRecord text b b2 w t t2 → HearsRecord text b b2 w′ t′ t2′ → (w ≡ w′) × (t ≡ t′) × (t2 ≡ t2′)
+one-record w w′ t t′ t2 t2′ p q =
+    let same = p .row ∙ sym (q .row) in
+    (one-word w w′ (ap (λ o. o .number) same) (ap (λ o. o .value) same) (ap (λ o. o .moves) same) (p .free) (q .free), ap (λ o. o .first) same, ap (λ o. o .second) same)
+
+one-told : (w w′ : ℕ) → heardTold w ≡ heardTold w′ → movesIn w ≡ 0 → movesIn w′ ≡ 0 → freeIn w ≡ 0 → freeIn w′ ≡ 0 → w ≡ w′
+one-told w w′ same m m′ f f′ = one-word w w′ (ap (λ (a : Told). a .number) same) (ap (λ (a : Told). a .value) same) (m ∙ sym m′) f f′
 
 -- In what follows a are the arguments, r and r′ are words, and e and e′ the arguments as they are at the return.
 module _ (κs : Lfts 2) where
@@ -98,3 +112,17 @@ module _ (κs : Lfts 4) where
 
   pub tum-ring-clone-once : Twice two.tum_ring_clone.ended κs (two.tum_ring_clone.Reads.Learnt κs) (λ r e r′ e′. (r ≡ r′) × (ringOf (now (e .1 .1 .1 .0)) (now (e .1 .1 .0)) ≡ ringOf (now (e′ .1 .1 .1 .0)) (now (e′ .1 .1 .0))))
   tum-ring-clone-once a r r′ e e′ p q = let all = one2 r r′ _ _ _ _ p q in (all .0, all .2)
+
+module _ (κs : Lfts 5) where
+  pub tum-record-read-once : Twice records.tum_record_read.ended κs (records.tum_record_read.Reads.Learnt κs) (λ r e r′ e′. (r ≡ r′) × (vectorOf (now (e .1 .1 .0)) (now (e .1 .0)) ≡ vectorOf (now (e′ .1 .1 .0)) (now (e′ .1 .0))) × (vectorOf (now (e .1 .1 .1 .1 .0)) (now (e .1 .1 .1 .0)) ≡ vectorOf (now (e′ .1 .1 .1 .1 .0)) (now (e′ .1 .1 .1 .0))))
+  tum-record-read-once a r r′ e e′ p q = one-record r r′ _ _ _ _ p q
+
+module _ (κs : Lfts 1) where
+  pub tum-record-judge-once : Twice records.tum_record_judge.ended κs (records.tum_record_judge.Reads.Learnt κs) (λ r e r′ e′. r ≡ r′)
+  tum-record-judge-once a r r′ e e′ p q = one-told r r′ (p .row ∙ sym (q .row)) (p .still) (q .still) (p .free) (q .free)
+
+module _ (κs : Lfts 2) where
+  pub tum-record-text-once : Twice records.tum_record_text.ended κs (records.tum_record_text.Reads.Learnt κs) (λ r e r′ e′. (r ≡ r′) × (now (e .1 .1 .1 .0) ≡ now (e′ .1 .1 .1 .0)))
+  tum-record-text-once a r r′ e e′ p q =
+      let same = p .row ∙ sym (q .row) in
+      (one-told r r′ (ap (λ (u : Unquoted). u .answer) same) (p .still) (q .still) (p .free) (q .free), ap (λ (u : Unquoted). u .out) same)

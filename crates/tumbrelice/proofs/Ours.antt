@@ -7,12 +7,15 @@ use denote.Triple.Clauses.{AtExit}
 use borrow.Fn.World.{ArgsD, ResD}
 use Rattle.slots.specs.Layout.{ring, vector}
 use Rattle.table.specs.Calls.{push, pushFront, pop, popFront, insert, remove, swapRemove, truncate, resize, clear, extend, look, read, stepFront, append, clone}
-use Rattle.table.specs.World.{World, on, onTwo, Ours}
-use Rattle.table.proofs.Laws.Named.{Is, Are, ours-on, ours-on-two}
+use Rattle.table.specs.World.{World, on, onTwo, calledTwo, Ours}
+use Rattle.table.proofs.Laws.Named.{Is, Are, ours-on, ours-on-two, ours-called-two}
+use Rattle.record.specs.Recorded.{recording}
+use Rattle.record.proofs.Laws.Kept.{recording-kept}
 use Rattle.tumbrelice.specs.Heard.{heardAt, heard, heard2, ringOf, vectorOf, cursorOf}
 use Rattle.tumbrelice.proofs.rings as rings
 use Rattle.tumbrelice.proofs.vectors as vectors
 use Rattle.tumbrelice.proofs.two as two
+use Rattle.tumbrelice.proofs.records as records
 use Rattle.tumbrelice.proofs.walks as walks
 
 -- In what follows a are the arguments, r is the word answered, and e the arguments as they are at the return.
@@ -101,3 +104,9 @@ module _ (w : World) (i j : ℕ) (κs : Lfts 4) where
       → Are w i j ring ring (ringOf (now (a .1 .0)) (now (a .0))) (ringOf (now (a .1 .1 .1 .0)) (now (a .1 .1 .0))) → two.tum_ring_clone.Reads.Learnt κs a r e
       → Ours w (onTwo i j clone (heard2 r (ringOf (now (a .1 .0)) (now (a .0))) (ringOf (now (e .1 .1 .1 .0)) (now (e .1 .1 .0)))))
   tum-ring-clone-ours a r e are learnt = ours-on-two w i j _ _ _ _ _ _ refl are (learnt .row)
+
+module _ (w : World) (i j : ℕ) (κs : Lfts 5) where
+  pub tum-record-read-ours : (a : ArgsD records.tum_record_read.signature κs) (r : ResD records.tum_record_read.signature κs) (e : AtExit records.tum_record_read.ended κs)
+      → Are w i j vector vector (vectorOf (now (a .1 .1 .0)) (now (a .1 .0))) (vectorOf (now (a .1 .1 .1 .1 .0)) (now (a .1 .1 .1 .0))) → records.tum_record_read.Reads.Learnt κs a r e
+      → Ours w (calledTwo i j (recording (now (a .0))) (heard2 r (vectorOf (now (e .1 .1 .0)) (now (e .1 .0))) (vectorOf (now (e .1 .1 .1 .1 .0)) (now (e .1 .1 .1 .0)))))
+  tum-record-read-ours a r e are learnt = ours-called-two w i j _ _ _ _ _ _ (recording-kept (now (a .0))) refl are (learnt .row)

@@ -10,11 +10,10 @@ behind-spec =
     (tie.spec
     (λ c. search (at-end, needs))
     (λ c. search needs)
-    (λ c. search (at-comma, needs))
     (λ c. search needs)
+    (λ c. search (at-comma, needs))
     (λ c. search (at-lf, needs))
     (λ c. search (at-other, needs))
-    (λ c. search needs)
     (λ c κs. search needs)
     (λ c. search needs)
     (λ c. search (at-crlf, needs))

@@ -1,8 +1,6 @@
 -- One answer: any two results that meet a call's generated contract on the same arguments are the same, and so is all that they leave in what the
 -- call may write.
-use Prim.Native.Nat.{ℕ}
 use mathlib.Core.Path.{_≡_, refl, sym, ap, _∙_}
-use mathlib.Core.List.{List}
 use contract.Lifetimes.{Lfts}
 use denote.Ref.{now}
 use Rattle.slots.proofs.Twice.{Twice}

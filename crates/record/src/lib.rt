@@ -247,9 +247,9 @@ pub fn judge(text: &[u8]) -> Told
     if 65535 < text.len() {
         return tells(11, 0);
     }
-    let mut none = [0u32; 1];
-    let mut none_either = [0u32; 1];
-    let v = pass(text, &mut none, &mut none_either);
+    let mut no_starts = [0u32; 0];
+    let mut no_ends = [0u32; 0];
+    let v = pass(text, &mut no_starts, &mut no_ends);
     tells(v.number, v.at as u32)
 }
 

@@ -1,5 +1,5 @@
 -- What is heard of the calls on a record is what is seen of them, and every answer fits a word.
-use mathlib.Core.Path.{_≡_, refl, sym, ap, _∙_}
+use mathlib.Core.Path.{_≡_, refl, ap, _∙_}
 use mathlib.Core.List.{List}
 use Prim.Native.Nat.{ℕ, _<_}
 use native.Mathlib.Omega.{arith}
@@ -8,7 +8,7 @@ use Rattle.vector.specs.declared.Vector.{Vector}
 use Rattle.vector.specs.Seen as vectors
 use Rattle.pairs.specs.declared.vectors.Both.{Both}
 use Rattle.record.specs.declared.Told.{Told}
-use Rattle.record.specs.Recorded.{told, judges, Records}
+use Rattle.record.specs.Recorded.{judges, Records}
 use Rattle.record.specs.Unquoted.{Unquoted, unquoted, Unquotes}
 use Rattle.record.proofs.Theorems.Small.{few-numbers, no-moves, judged-few, unquoted-few}
 use Rattle.tumbrelice.specs.Heard.{Worded, vectorIn, vectorOut, vectorOf}

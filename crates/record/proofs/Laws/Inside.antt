@@ -1,5 +1,5 @@
 -- What a reading tells of a place lies in the text: where the next record starts, and where this one goes wrong. By the scan, byte by byte.
-use mathlib.Core.Path.{_≡_, refl, sym, _∙_}
+use mathlib.Core.Path.{_≡_, refl}
 use mathlib.Core.Bool.{Bool, true, false, cond, _&&_}
 use mathlib.Core.List.{List, [], _∷_}
 use Prim.Native.Nat.{ℕ, suc, _+_, _≤_}

@@ -1,20 +1,18 @@
 -- The call keeps demand 3's rule: refused, it leaves both vectors; done, both were empty, they hold the starts and the ends, and these entered.
-use mathlib.Core.Path.{_≡_, refl, sym, ap, _∙_}
-use mathlib.Core.Bool.{Bool, true, false, not}
-use mathlib.Core.List.{List, [], _∷_, _++_, append-nil}
+use mathlib.Core.Path.{_≡_}
+use mathlib.Core.Bool.{true, not}
+use mathlib.Core.List.{List, [], _++_}
 use Prim.Native.Nat.{ℕ, zero, suc, _+_, _-_, _≤_, _<_}
 use native.Mathlib.Omega.{arith}
-use borrow.Author.Tests.{eqb-false, ltb-false}
-use lib.Dec.{eqb, ltb}
+use borrow.Author.Tests.{ltb-false}
+use lib.Dec.{eqb}
 use lib.ListN.{length}
 use Rattle.slots.specs.Layout.{Kind, ring, vector}
-use Rattle.slots.specs.Count.{count}
-use Rattle.slots.proofs.Counts.{count-append}
 use Rattle.slots.proofs.Placing.{no-entries}
 use Rattle.table.specs.Tray.{Tray, cap, list, nowhere}
-use Rattle.table.specs.Does.{Outcome2, refused2, relay}
-use Rattle.table.specs.Ledger.{Rule2, goesBy2}
-use Rattle.table.specs.Promise.{Good, Holds, Keeps2, Kept2}
+use Rattle.table.specs.Does.{Outcome2, refused2}
+use Rattle.table.specs.Ledger.{goesBy2}
+use Rattle.table.specs.Promise.{Good, Keeps2, Kept2}
 use Rattle.table.proofs.Laws.Keeps.{relay-holds, refused2-keeps}
 use Rattle.record.specs.Scan.{scanned}
 use Rattle.record.specs.Steps.{numberOf, firsts, lasts}

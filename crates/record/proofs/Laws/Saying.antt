@@ -1,7 +1,7 @@
 -- What the answers say is what is promised: the early refusals stop before the text is looked at, the late ones behind it, and what is laid into the
 -- slots is what the table's own layout of the new lists holds.
 use mathlib.Core.Path.{_≡_, refl, sym, ap, _∙_}
-use mathlib.Core.Bool.{Bool, true, false, not, cond}
+use mathlib.Core.Bool.{Bool, true, false, not}
 use mathlib.Core.List.{List, [], _∷_, _++_}
 use Prim.Native.Nat.{ℕ, suc, _+_, _-_, _≤_, _<_}
 use native.Mathlib.Omega.{arith}
@@ -45,10 +45,7 @@ not-held n e = eqb-true n 0 (go (eqb n 0) e)
   where
     go : (b : Bool) → not b ≡ false → b ≡ true
     go true e = refl
-    go false e = e′ e
-      where
-        e′ : true ≡ false → false ≡ true
-        e′ e = sym e
+    go false e = sym e
 
 -- Numbers set one after another into the slots of an empty vector are that vector's layout of them.
 set-there : (l s : List ℕ) (j : ℕ) → length l ≤ length s → j < length l → getD (sets s 0 l) j 0 ≡ getD l j 0

@@ -12,7 +12,7 @@ use lib.Seq.{drop-drop}
 use Rattle.record.specs.declared.Found.{Found}
 use Rattle.record.specs.declared.Found.the-variants.{Field, Unclosed}
 use Rattle.record.specs.Grammar.{quote}
-use Rattle.record.specs.Scan.{Reading, upTo, unclosed, special, starts, fresh, plain, quoted, closed, scan}
+use Rattle.record.specs.Scan.{Reading, upTo, unclosed, special, starts, fresh, plain, quoted, scan}
 use Rattle.record.specs.Steps.{run, bodyRun, quotedAt, plainAt, fieldAt}
 use Rattle.record.proofs.Theorems.Complete.{stops}
 use Rattle.record.proofs.Laws.Runs.{left, stands-at, inside, run-short}

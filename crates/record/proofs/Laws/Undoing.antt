@@ -1,13 +1,13 @@
 -- Doubled quotes are undone byte by byte: what was counted or written, with what is left of the field, is always the whole.
 use mathlib.Core.Path.{_≡_, refl, sym, ap, _∙_}
-use mathlib.Core.Bool.{Bool, true, false, not, cond, _&&_}
+use mathlib.Core.Bool.{Bool, true, false, cond, _&&_}
 use mathlib.Core.List.{List, [], _∷_, _++_}
 use Prim.Native.Nat.{ℕ, zero, suc, _+_, _-_, _≤_, _<_}
 use native.Mathlib.Numerals.{add-one}
 use native.Mathlib.Omega.{arith}
 use borrow.Author.Tests.{eq-eqb, eqb-true, ne-eqb, lt-ltb, le-ltb, lt-leb, le-leb}
-use lib.Dec.{eqb, ltb}
-use lib.ListN.{length, getD, drop, take, set, length-set, length-take, length-drop}
+use lib.Dec.{eqb}
+use lib.ListN.{length, getD, drop, set, length-set, length-take, length-drop}
 use lib.Seq.{sets, sets-eq, drop-drop}
 use Rattle.record.specs.Grammar.{quote}
 use Rattle.record.specs.Scan.{starts}

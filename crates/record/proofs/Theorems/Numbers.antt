@@ -5,9 +5,9 @@ use mathlib.Core.Path.{_≡_, refl, sym, ap, _∙_}
 use mathlib.Core.Bool.{Bool, true, false, not, cond}
 use mathlib.Core.List.{List, [], _∷_, _++_}
 use mathlib.Core.Logic.{inl, inr}
-use Prim.Native.Nat.{ℕ, zero, suc, _≤_, _<_}
+use Prim.Native.Nat.{ℕ, zero, suc}
 use native.Mathlib.Omega.{arith}
-use borrow.Author.Tests.{eqb-true, eqb-false, ltb-true, ltb-false}
+use borrow.Author.Tests.{ltb-true, ltb-false}
 use lib.Dec.{eqb, ltb}
 use lib.ListN.{length}
 use contract.Lifetimes.{Lfts}
@@ -24,13 +24,12 @@ use Rattle.pairs.specs.Vectors.{seen2}
 use Rattle.record.specs.Grammar.{Reads}
 use Rattle.record.specs.Scan.{Ending, done, bad, unclosed, scanned}
 use Rattle.record.specs.Steps.{numberOf, placeOf, firsts, lasts}
-use Rattle.record.specs.Where.{Bad, Unclosed}
 use Rattle.record.specs.Recorded.{longest, firstOf, earlyTests, lateTests, places, records}
 use Rattle.record.specs.Numbers.{Applies, first-invalid, second-invalid, first-taken, second-taken, too-long, not-allowed, never-closed, few-starts, few-ends, First, order}
-use Rattle.record.proofs.Laws.Order.{None, by-tests}
+use Rattle.record.proofs.Laws.Order.{by-tests}
 use Rattle.record.proofs.Laws.Saying.{not-held, length-firsts, length-lasts}
 use Rattle.record.proofs.Theorems.Complete.{complete}
-use Rattle.record.proofs.Theorems.Refused.{ending-done, ending-bad, ending-unclosed, bad-ending, unclosed-ending}
+use Rattle.record.proofs.Theorems.Refused.{ending-done, ending-bad, ending-unclosed}
 use Rattle.record.proofs.read as read·fn
 use Rattle.record.proofs.read.Reads as read·reads
 

@@ -2,13 +2,12 @@
 use mathlib.Core.Path.{_≡_, refl}
 use mathlib.Core.Bool.{Bool, true, false, cond}
 use mathlib.Core.List.{List, _++_}
-use Prim.Native.Nat.{ℕ, _≤_, _<_}
+use Prim.Native.Nat.{ℕ, _≤_}
 use native.Mathlib.Omega.{arith}
 use lib.Dec.{ltb}
 use lib.ListN.{length}
 use Rattle.table.specs.Tray.{Tray, cap, nowhere}
 use Rattle.table.specs.Does.{Outcome2, refused2}
-use Rattle.record.specs.declared.Told.{Told}
 use Rattle.record.specs.Scan.{Ending, done, bad, unclosed, scanned}
 use Rattle.record.specs.Steps.{numberOf, placeOf}
 use Rattle.record.specs.Undone.{undone, part}

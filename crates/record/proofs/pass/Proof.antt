@@ -1,6 +1,5 @@
 -- `pass` meets its promise: what was counted and kept, with what is read from the place on, always comes to the same.
 use Prim.Native.Nat.{_-_}
-use native.Mathlib.Omega.{arith}
 use borrow.Author.Needs.{needs}
 use lib.ListN.{length}
 use Rattle.record.proofs.Laws.Passing.{Passed, none-passed, next-inside, start-fits, end-fits, next-fits, less-next, comma-passed}

@@ -1,11 +1,7 @@
 -- `quoted_end` meets its promise: at each quote the position, with the body that is left, comes to the same end.
-use Prim.Native.Nat.{_+_, _-_, _≤_, _<_}
-use mathlib.Core.Path.{_≡_}
-use mathlib.Core.Bool.{true}
+use Prim.Native.Nat.{_+_, _-_}
 use borrow.Author.Needs.{needs}
 use lib.ListN.{length, drop}
-use Rattle.record.specs.Grammar.{quote}
-use Rattle.record.specs.Scan.{starts}
 use Rattle.record.specs.Steps.{bodyRun}
 use Rattle.record.proofs.Laws.Runs.{Quoted, quoted-first, quoted-again, quoted-less, pair-inside, quoted-stop, quoted-over}
 use Rattle.record.proofs.quoted_end.Statement.{statement}

@@ -1,5 +1,4 @@
 -- `settle` meets its promise: the late refusals in their order, and what is laid into the slots where there is room.
-use mathlib.Core.Path.{refl}
 use borrow.Author.Needs.{needs}
 use Rattle.record.proofs.Laws.Saying.{late-refused, few-starts, few-ends, value-fits, placed}
 use Rattle.record.proofs.settle.Statement.{statement}

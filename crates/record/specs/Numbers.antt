@@ -1,5 +1,6 @@
--- The numbers that `read` may answer, each by its own condition and the grammar alone; and which is answered: the first that applies, in the order of request 01.
-use Prim.Native.Nat.{ℕ, _<_}
+-- The numbers that `read` may answer, each by its own condition and the grammar alone; and which is answered: the first that applies, in the order of
+-- request 01. And what `judge` answers.
+use Prim.Native.Nat.{ℕ, _≤_, _<_}
 use mathlib.Core.Path.{_≡_}
 use mathlib.Core.Bool.{true}
 use mathlib.Core.List.{List, [], _∷_}
@@ -8,7 +9,7 @@ use lib.ListN.{length}
 use Rattle.slots.specs.Layout.{vector}
 use Rattle.table.specs.Tray.{Tray, cap, invalid}
 use Rattle.record.specs.Grammar.{Reads}
-use Rattle.record.specs.Where.{Bad, Unclosed}
+use Rattle.record.specs.Where.{Bad, Unclosed, BadAt, OpenedAt}
 
 pub data Applies (text : List ℕ) (t t2 : Tray) : ℕ → Type 0 where
   first-invalid : invalid vector t ≡ true → Applies text t t2 1
@@ -29,3 +30,10 @@ First applies (j ∷ rest) m = (applies j × (m ≡ j)) ⊎ ((applies j → ⊥)
 -- no text is of 9 and of 10
 abbrev pub order : List ℕ
 order = 1 ∷ 2 ∷ 5 ∷ 11 ∷ 9 ∷ 10 ∷ 6 ∷ []
+
+-- what `judge` answers of a text, by the grammar alone: its number and its value
+pub data Judgement (text : List ℕ) : (number value : ℕ) → Type 0 where
+  long : 65535 < length text → Judgement text 11 0
+  fits : {fields : List (ℕ × ℕ)} {next : ℕ} → length text ≤ 65535 → Reads text fields next → Judgement text 0 next
+  wrong : {p : ℕ} → length text ≤ 65535 → Bad text → BadAt text p → Judgement text 9 p
+  opened : {p : ℕ} → length text ≤ 65535 → OpenedAt text p → Judgement text 10 p

@@ -4,8 +4,8 @@
 use mathlib.Core.Path.{_≡_, refl, sym, ap, _∙_}
 use mathlib.Core.Bool.{Bool, true, false, not, cond}
 use mathlib.Core.List.{List, [], _∷_, _++_}
-use mathlib.Core.Logic.{inl, inr}
-use Prim.Native.Nat.{ℕ, zero, suc}
+use mathlib.Core.Logic.{_↔_, _⊎_, inl, inr, ⊎-elim}
+use Prim.Native.Nat.{ℕ, zero, suc, _≤_}
 use native.Mathlib.Omega.{arith}
 use borrow.Author.Tests.{ltb-true, ltb-false}
 use lib.Dec.{eqb, ltb}
@@ -21,15 +21,18 @@ use Rattle.table.specs.Does.{Outcome2, refused2}
 use Rattle.table.proofs.Laws.Keeps.{relay-list}
 use Rattle.vector.specs.Seen.{tray}
 use Rattle.pairs.specs.Vectors.{seen2}
-use Rattle.record.specs.Grammar.{Reads}
+use Rattle.record.specs.Grammar.{Reads, Fits}
 use Rattle.record.specs.Scan.{Ending, done, bad, unclosed, scanned}
 use Rattle.record.specs.Steps.{numberOf, placeOf, firsts, lasts}
-use Rattle.record.specs.Recorded.{longest, firstOf, earlyTests, lateTests, places, records}
-use Rattle.record.specs.Numbers.{Applies, first-invalid, second-invalid, first-taken, second-taken, too-long, not-allowed, never-closed, few-starts, few-ends, First, order}
+use Rattle.record.specs.Recorded.{longest, told, judges, firstOf, earlyTests, lateTests, places, records}
+use Rattle.record.specs.Numbers.{Applies, first-invalid, second-invalid, first-taken, second-taken, too-long, not-allowed, never-closed, few-starts, few-ends, First, order, Judgement, long, fits, wrong, opened}
 use Rattle.record.proofs.Laws.Order.{by-tests}
 use Rattle.record.proofs.Laws.Saying.{not-held, length-firsts, length-lasts}
 use Rattle.record.proofs.Theorems.Complete.{complete}
 use Rattle.record.proofs.Theorems.Refused.{ending-done, ending-bad, ending-unclosed}
+use Rattle.record.proofs.Theorems.Where.{bad-at-iff, unclosed-at-iff}
+use Rattle.record.proofs.judge as judge·fn
+use Rattle.record.proofs.judge.Reads as judge·reads
 use Rattle.record.proofs.read as read·fn
 use Rattle.record.proofs.read.Reads as read·reads
 
@@ -207,6 +210,46 @@ module _ (text : List ℕ) (t t2 : Tray) where
         ends = relay-list vector t2 (lasts (scanned text .fields)) 0 (omega arith) (omega (arith, length-lasts (scanned text .fields)));
       })
 
+-- unless 1, 2, 5, 11 or 6 applies, 0 exactly where the text fits
+module _ (text : List ℕ) (t t2 : Tray) (no-1 : Applies text t t2 1 → ⊥) (no-2 : Applies text t t2 2 → ⊥) (no-5 : Applies text t t2 5 → ⊥)
+    (no-11 : Applies text t t2 11 → ⊥) (no-6 : Applies text t t2 6 → ⊥) where
+  late-fits : Fits text → (m : ℕ) → First (Applies text t t2) (9 ∷ 10 ∷ 6 ∷ []) m → m ≡ 0
+  late-fits f m (inl (not-allowed h, e)) = absurd (h .no-fit f)
+  late-fits f m (inr (a, inl (never-closed h, e))) = absurd (h .no-fit f)
+  late-fits f m (inr (a, inr (b, inl (h, e)))) = absurd (no-6 h)
+  late-fits f m (inr (a, inr (b, inr (c, e)))) = e
+
+  all-fits : Fits text → (m : ℕ) → First (Applies text t t2) order m → m ≡ 0
+  all-fits f m (inl (h, e)) = absurd (no-1 h)
+  all-fits f m (inr (a, inl (h, e))) = absurd (no-2 h)
+  all-fits f m (inr (a, inr (b, inl (h, e)))) = absurd (no-5 h)
+  all-fits f m (inr (a, inr (b, inr (c, inl (h, e))))) = absurd (no-11 h)
+  all-fits f m (inr (a, inr (b, inr (c, inr (d, later))))) = late-fits f m later
+
+  pub exactly-fits : (records text t t2 .number ≡ 0) ↔ Fits text
+  exactly-fits =
+      (λ none. let r = records-done text t t2 none in (r .fields, r .next, r .reads), λ f. all-fits f (records text t t2 .number) (records-numbers text t t2))
+
+-- `judge`, by the grammar alone
+judged-as : (text : List ℕ) → length text ≤ 65535 → (x : Ending) → scanned text .ending ≡ x → Judgement text (numberOf x) (placeOf x)
+judged-as text short (done next) e = fits short (ending-done text next e)
+judged-as text short (bad p) e = let x = bad-at-iff text p .0 e in wrong short (x .0) (x .1)
+judged-as text short (unclosed p) e = opened short (unclosed-at-iff text p .0 e)
+
+pub judges-means : (text : List ℕ) → Judgement text (judges text .number) (judges text .value)
+unfolding judges
+judges-means text = go (ltb longest (length text)) refl
+  where
+    go : (c : Bool) → ltb longest (length text) ≡ c
+        → Judgement text (cond c (told 11 0) (told (numberOf (scanned text .ending)) (placeOf (scanned text .ending))) .number)
+        (cond c (told 11 0) (told (numberOf (scanned text .ending)) (placeOf (scanned text .ending))) .value)
+    go true e = long (ltb-true longest (length text) e)
+    go false e = judged-as text (ltb-false longest (length text) e) (scanned text .ending) refl
+
+module _ (κs : Lfts 1) (a : ArgsD judge·fn.signature κs) (r : ResD judge·fn.signature κs) (e : AtExit judge·fn.ended κs) (learnt : judge·reads.Learnt κs a r e) where
+  pub judge-means : Judgement (now (a .0)) (r .number) (r .value)
+  judge-means = rw learnt (judges-means (now (a .0)))
+
 -- From the generated contract: a are the arguments, r is the result, and e the arguments as they are at the return.
 module _ (κs : Lfts 3) (a : ArgsD read·fn.signature κs) (r : ResD read·fn.signature κs) (e : AtExit read·fn.ended κs) (learnt : read·reads.Learnt κs a r e) where
   pub read-numbers : First (Applies (now (a .0)) (tray (a .1 .0) (now (a .1 .1 .0))) (tray (a .1 .1 .1 .0) (now (a .1 .1 .1 .1 .0)))) order (r .number)
@@ -221,3 +264,14 @@ module _ (κs : Lfts 3) (a : ArgsD read·fn.signature κs) (r : ResD read·fn.si
       learnt .row
       ∙ records-refused _ _ _ (λ z. no-zero (ap (λ (o : Outcome2). o .number) (learnt .row) ∙ z))
       ∙ rw (← ap (λ (o : Outcome2). o .number) (learnt .row)) refl
+
+  -- unless 1, 2, 5, 11 or 6 applies
+  pub read-exactly : ((j : ℕ) → Applies (now (a .0)) (tray (a .1 .0) (now (a .1 .1 .0))) (tray (a .1 .1 .1 .0) (now (a .1 .1 .1 .1 .0))) j → (j ≡ 9) ⊎ (j ≡ 10))
+      → (r .number ≡ 0) ↔ Fits (now (a .0))
+  read-exactly only =
+      let no : (j : ℕ) → (j ≡ 9 → ⊥) → (j ≡ 10 → ⊥) → Applies (now (a .0)) (tray (a .1 .0) (now (a .1 .1 .0))) (tray (a .1 .1 .1 .0) (now (a .1 .1 .1 .1 .0))) j → ⊥ =
+      λ j x y h. ⊎-elim x y (only j h) in
+      let is = exactly-fits (now (a .0)) (tray (a .1 .0) (now (a .1 .1 .0))) (tray (a .1 .1 .1 .0) (now (a .1 .1 .1 .1 .0)))
+      (no 1 (λ e. omega arith) (λ e. omega arith)) (no 2 (λ e. omega arith) (λ e. omega arith)) (no 5 (λ e. omega arith) (λ e. omega arith))
+      (no 11 (λ e. omega arith) (λ e. omega arith)) (no 6 (λ e. omega arith) (λ e. omega arith)) in
+      (λ e. is .0 (sym (ap (λ (o : Outcome2). o .number) (learnt .row)) ∙ e), λ f. ap (λ (o : Outcome2). o .number) (learnt .row) ∙ is .1 f)

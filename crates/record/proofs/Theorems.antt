@@ -9,4 +9,5 @@ pub mod RoundTrip
 pub mod Rewritten
 pub mod Whole
 pub mod Bytes
+pub mod Back
 pub mod Small

@@ -4,6 +4,7 @@ pub mod Scan
 pub mod Undone
 pub mod Written
 pub mod Where
+pub mod Places
 pub mod Steps
 pub mod Recorded
 pub mod Unquoted

@@ -7,8 +7,10 @@ use mathlib.Core.List.{List, [], _∷_}
 use mathlib.Core.Logic.{_⊎_}
 use lib.ListN.{length}
 use Rattle.slots.specs.Layout.{vector}
-use Rattle.table.specs.Tray.{Tray, cap, invalid}
+use Rattle.table.specs.Tray.{Tray, cap, list, invalid}
+use Rattle.table.specs.Does.{Outcome2}
 use Rattle.record.specs.Grammar.{Reads}
+use Rattle.record.specs.Places.{firsts, lasts}
 use Rattle.record.specs.Where.{Bad, Unclosed, BadAt, OpenedAt}
 
 pub data Applies (text : List ℕ) (t t2 : Tray) : ℕ → Type 0 where
@@ -30,6 +32,15 @@ First applies (j ∷ rest) m = (applies j × (m ≡ j)) ⊎ ((applies j → ⊥)
 -- no text is of 9 and of 10
 abbrev pub order : List ℕ
 order = 1 ∷ 2 ∷ 5 ∷ 11 ∷ 9 ∷ 10 ∷ 6 ∷ []
+
+-- the reading of a text, on two vectors
+pub record Read (text : List ℕ) (o : Outcome2) : Type 0 where
+  pub fields : List (ℕ × ℕ)
+  pub next : ℕ
+  pub reads : Reads text fields next
+  pub value : o .value ≡ next
+  pub starts : list vector (o .first) ≡ firsts fields
+  pub ends : list vector (o .second) ≡ lasts fields
 
 -- what `judge` answers of a text, by the grammar alone: its number and its value
 pub data Judgement (text : List ℕ) : (number value : ℕ) → Type 0 where

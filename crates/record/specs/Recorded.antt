@@ -16,7 +16,8 @@ use Rattle.vector.specs.Seen.{tray}
 use Rattle.pairs.specs.declared.vectors.Both.{Both}
 use Rattle.pairs.specs.Vectors.{seen2}
 use Rattle.record.specs.Scan.{scanned}
-use Rattle.record.specs.Steps.{numberOf, placeOf, firsts, lasts}
+use Rattle.record.specs.Places.{firsts, lasts}
+use Rattle.record.specs.Steps.{numberOf, placeOf}
 use Rattle.record.specs.declared.Told.{Told}
 
 -- the most bytes that a text may have

@@ -1,4 +1,4 @@
--- A record read byte by byte: what the code is held against. It need not be believed: that this is the grammar is proved (proofs/Sound, Complete).
+-- A record read byte by byte: what the code is held against. It need not be believed: that this is the grammar is proved (proofs/Theorems/Sound, Complete).
 use Prim.Native.Nat.{ℕ, _+_}
 use mathlib.Core.Bool.{Bool, false, cond, _&&_, _||_}
 use mathlib.Core.List.{List, [], _∷_}

@@ -1,5 +1,5 @@
 -- What the code's steps find: how far a run of bytes goes, the field at a place, what stands behind it, and the places kept of the fields. That this
--- comes to what the scan reads is proved (proofs/Spans, Passing).
+-- comes to what the scan reads is proved (proofs/Laws/Spans, Passing).
 use Prim.Native.Nat.{ℕ, _+_, _≤_}
 use mathlib.Core.Path.{_≡_}
 use mathlib.Core.Bool.{Bool, false, cond, _&&_, _||_}
@@ -8,6 +8,7 @@ use lib.Dec.{eqb, ltb}
 use lib.ListN.{length, take, drop}
 use Rattle.record.specs.Grammar.{comma, quote, cr, lf}
 use Rattle.record.specs.Scan.{Ending, done, bad, unclosed, Reading, special, starts, scanned}
+use Rattle.record.specs.Places.{firsts, lasts}
 use Rattle.record.specs.declared.Found.{Found}
 use Rattle.record.specs.declared.Found.the-variants.{Field, Unclosed}
 use Rattle.record.specs.declared.Stop.{Stop}
@@ -70,14 +71,6 @@ comesTo number count at = record { number = number; count = count; at = at }
 
 abbrev pub tally : (k : ℕ) → Reading → Verdict
 tally k r = comesTo (numberOf (r .ending)) (k + length (r .fields)) (placeOf (r .ending))
-
-unfoldable pub firsts : List (ℕ × ℕ) → List ℕ
-firsts [] = []
-firsts (f ∷ fields) = f .0 ∷ firsts fields
-
-unfoldable pub lasts : List (ℕ × ℕ) → List ℕ
-lasts [] = []
-lasts (f ∷ fields) = f .1 ∷ lasts fields
 
 -- a text was judged: it has so many fields, and the places of the first sixteen were kept
 pub record Judged (text : List ℕ) (count : ℕ) (kept kept-ends : List ℕ) : Type 0 where

@@ -13,7 +13,8 @@ pub record Unclosed (text : List ℕ) : Type 0 where
   pub no-fit : Fits text → ⊥
   pub with-quote : Fits (text ++ (quote ∷ []))
 
--- 9 is the fault of the byte at p: cut before it the text fits, cut behind it it does not, and would not with a quote at its end
+-- Of a text that is bad, the byte at p is at fault: cut before it the text fits, cut behind it it does not, and would not with a quote at its end. (Of a
+-- text that fits, a CR with its LF behind it is such a byte too.)
 pub record BadAt (text : List ℕ) (p : ℕ) : Type 0 where
   pub before : Fits (take p text)
   pub behind : Bad (take (p + 1) text)
@@ -23,6 +24,6 @@ pub data Begins (text : List ℕ) : (p : ℕ) (s : List ℕ) → Type 0 where
   first : Begins text 0 text
   later : {at : ℕ} {s : List ℕ} {fields : List (ℕ × ℕ)} → Fields 0 text fields at (comma ∷ s) → Begins text (at + 1) s
 
--- 10 is the fault of the quote at p: it opens a field, and all that follows is that field's body
+-- The quote at p is never closed: it opens a field, and all that follows is that field's body
 pub data OpenedAt (text : List ℕ) (p : ℕ) : Type 0 where
   opened : {e : ℕ} {s : List ℕ} → Begins text p (quote ∷ s) → Body (p + 1) s e [] → OpenedAt text p

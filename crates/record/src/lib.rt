@@ -11,7 +11,8 @@ ghost use lib.Seq.{sets};
 ghost use Rattle.record.specs.Scan.{special, starts, scanned};
 ghost use Rattle.vector.specs.Seen.{state};
 ghost use Rattle.pairs.specs.Vectors.{says};
-ghost use Rattle.record.specs.Steps.{run, any, isQuote, bodyRun, fieldAt, stopOf, comesTo, tally, firsts, lasts, Judged};
+ghost use Rattle.record.specs.Places.{firsts, lasts};
+ghost use Rattle.record.specs.Steps.{run, any, isQuote, bodyRun, fieldAt, stopOf, comesTo, tally, Judged};
 ghost use Rattle.record.specs.Recorded.{longest, told, judges, early, Records};
 
 // The field at a place: where its bytes start and end, and the position behind it.

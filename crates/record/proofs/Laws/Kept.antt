@@ -15,7 +15,8 @@ use Rattle.table.specs.Ledger.{goesBy2}
 use Rattle.table.specs.Promise.{Good, Keeps2, Kept2}
 use Rattle.table.proofs.Laws.Keeps.{relay-holds, refused2-keeps}
 use Rattle.record.specs.Scan.{scanned}
-use Rattle.record.specs.Steps.{numberOf, firsts, lasts}
+use Rattle.record.specs.Places.{firsts, lasts}
+use Rattle.record.specs.Steps.{numberOf}
 use Rattle.record.specs.Recorded.{earlyTests, lateTests, places, records, recording}
 use Rattle.record.proofs.Laws.Order.{None, by-tests}
 use Rattle.record.proofs.Laws.Saying.{not-held, length-firsts, length-lasts}

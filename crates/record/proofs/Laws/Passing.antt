@@ -15,7 +15,8 @@ use Rattle.record.specs.declared.Stop.{Stop}
 use Rattle.record.specs.declared.Stop.the-variants.{Comma, End, Bad}
 use Rattle.record.specs.declared.Verdict.{Verdict}
 use Rattle.record.specs.Scan.{Ending, Reading, upTo, done, bad, unclosed, more, fresh, scan, scanned}
-use Rattle.record.specs.Steps.{fieldAt, stopOf, numberOf, placeOf, comesTo, tally, firsts, lasts}
+use Rattle.record.specs.Places.{firsts, lasts}
+use Rattle.record.specs.Steps.{fieldAt, stopOf, numberOf, placeOf, comesTo, tally}
 use Rattle.record.proofs.Theorems.Complete.{stops}
 use Rattle.record.proofs.Laws.Runs.{none-left}
 use Rattle.record.proofs.Laws.Spans.{afterField, field-scan, within, Within}

@@ -23,7 +23,8 @@ use Rattle.pairs.specs.Vectors.{seen2, says}
 use Rattle.record.specs.declared.Verdict.{Verdict}
 use Rattle.record.specs.declared.Told.{Told}
 use Rattle.record.specs.Scan.{scanned}
-use Rattle.record.specs.Steps.{numberOf, placeOf, tally, firsts, lasts, Judged}
+use Rattle.record.specs.Places.{firsts, lasts}
+use Rattle.record.specs.Steps.{numberOf, placeOf, tally, Judged}
 use Rattle.record.proofs.Laws.Inside.{place-inside}
 use Rattle.record.proofs.Laws.Order.{Above, stopped, passed, None, none-holds}
 use Rattle.record.specs.Recorded.{longest, told, judges, firstOf, earlyTests, early, lateTests, places, records, Records}

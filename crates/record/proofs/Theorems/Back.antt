@@ -1,6 +1,6 @@
 -- What was written comes back through `read`: of any list of byte strings, quoted, doubled and joined, with any record end behind it, the call that is
 -- done gives starts and ends of fields whose own bytes are that list.
-use mathlib.Core.Path.{_≡_, sym, ap, subst, _∙_}
+use mathlib.Core.Path.{_≡_, ap, subst, _∙_}
 use mathlib.Core.List.{List, _∷_, _++_}
 use Prim.Native.Nat.{ℕ}
 use lib.ListN.{length}
@@ -12,7 +12,7 @@ use Rattle.slots.specs.Layout.{vector}
 use Rattle.table.specs.Tray.{list}
 use Rattle.vector.specs.Seen.{tray}
 use Rattle.record.specs.Grammar.{Ends, Reads}
-use Rattle.record.specs.Steps.{firsts, lasts}
+use Rattle.record.specs.Places.{firsts, lasts}
 use Rattle.record.specs.Undone.{ownBytes}
 use Rattle.record.specs.Written.{written}
 use Rattle.record.proofs.Theorems.RoundTrip.{round-trip}

@@ -15,17 +15,18 @@ use denote.Ref.{now}
 use denote.Triple.Clauses.{AtExit}
 use borrow.Fn.World.{ArgsD, ResD}
 use Rattle.slots.specs.Layout.{vector}
-use Rattle.table.specs.Tray.{Tray, cap, list, valid, invalid, nowhere}
+use Rattle.table.specs.Tray.{Tray, cap, valid, invalid, nowhere}
 use Rattle.table.specs.Table.{holding}
 use Rattle.table.specs.Does.{Outcome2, refused2}
 use Rattle.table.proofs.Laws.Keeps.{relay-list}
 use Rattle.vector.specs.Seen.{tray}
 use Rattle.pairs.specs.Vectors.{seen2}
-use Rattle.record.specs.Grammar.{Reads, Fits}
+use Rattle.record.specs.Grammar.{Fits}
 use Rattle.record.specs.Scan.{Ending, done, bad, unclosed, scanned}
-use Rattle.record.specs.Steps.{numberOf, placeOf, firsts, lasts}
+use Rattle.record.specs.Places.{firsts, lasts}
+use Rattle.record.specs.Steps.{numberOf, placeOf}
 use Rattle.record.specs.Recorded.{longest, told, judges, firstOf, earlyTests, lateTests, places, records}
-use Rattle.record.specs.Numbers.{Applies, first-invalid, second-invalid, first-taken, second-taken, too-long, not-allowed, never-closed, few-starts, few-ends, First, order, Judgement, long, fits, wrong, opened}
+use Rattle.record.specs.Numbers.{Applies, first-invalid, second-invalid, first-taken, second-taken, too-long, not-allowed, never-closed, few-starts, few-ends, First, order, Read, Judgement, long, fits, wrong, opened}
 use Rattle.record.proofs.Laws.Order.{by-tests}
 use Rattle.record.proofs.Laws.Saying.{not-held, length-firsts, length-lasts}
 use Rattle.record.proofs.Theorems.Complete.{complete}
@@ -35,15 +36,6 @@ use Rattle.record.proofs.judge as judge·fn
 use Rattle.record.proofs.judge.Reads as judge·reads
 use Rattle.record.proofs.read as read·fn
 use Rattle.record.proofs.read.Reads as read·reads
-
--- the reading of a text, on two vectors
-pub record Read (text : List ℕ) (o : Outcome2) : Type 0 where
-  pub fields : List (ℕ × ℕ)
-  pub next : ℕ
-  pub reads : Reads text fields next
-  pub value : o .value ≡ next
-  pub starts : list vector (o .first) ≡ firsts fields
-  pub ends : list vector (o .second) ≡ lasts fields
 
 -- a test that says whether a number applies
 settle : (P : ℕ → Type 0) (rest : List ℕ) (j m : ℕ) (b : Bool) → (b ≡ true → P j) → (b ≡ false → P j → ⊥) → First P rest m → First P (j ∷ rest) (cond b j m)

@@ -1,0 +1,11 @@
+-- The laws behind what `import` promises.
+pub mod Writing
+pub mod Decimals
+pub mod Lines
+pub mod Spots
+pub mod Settling
+pub mod Window
+pub mod Fields
+pub mod Fitting
+pub mod Counting
+pub mod Turning

@@ -1,0 +1,93 @@
+// What is counted: lines and bytes passed, records, and their fields.
+ghost use mathlib.Core.Path.{_≡_};
+ghost use Prim.Native.Nat.{_+_, _<_};
+ghost use mathlib.Core.Bool.{cond};
+ghost use lib.Dec.{eqb};
+ghost use lib.ListN.{length};
+ghost use Rattle.import.specs.Spots.{lineOn, byteOn, Behind};
+ghost use Rattle.import.specs.Sheets.{Counted};
+
+// A line and a byte of it, both from 1.
+pub struct Spot {
+    pub line: u64,
+    pub byte: u64,
+}
+
+// What was counted: bytes passed, line and byte of the next one, records, fields of the first, and records with another number of fields.
+pub struct Sheet {
+    pub passed: u64,
+    pub line: u64,
+    pub byte: u64,
+    pub records: u64,
+    pub first: u64,
+    pub others: u64,
+}
+
+// Behind one more byte.
+pub fn behind(s: Spot, b: u8) -> Spot
+    requires { ⌜ (s .line < 18446744073709551615) × (s .byte < 18446744073709551615) ⌝ }
+    ensures { λ r. ⌜ (r .line ≡ lineOn (s .line) b) × (r .byte ≡ byteOn (s .byte) b) ⌝ }
+{
+    if b == 10 {
+        return Spot {
+            line: s.line + 1,
+            byte: 1,
+        };
+    }
+    Spot {
+        line: s.line,
+        byte: s.byte + 1,
+    }
+}
+
+// Behind a part.
+pub fn spot_behind(part: &[u8], first: Spot) -> Spot
+    requires { ⌜ (first .line + length (now part) < 18446744073709551616) × (first .byte + length (now part) < 18446744073709551616) ⌝ }
+    ensures { λ r. ⌜ Behind first (now (part .entry)) r ⌝ }
+{
+    let mut s = first;
+    let mut i = 0;
+    while i < part.len() {
+        s = behind(s, part[i]);
+        i += 1;
+    }
+    s
+}
+
+// How many fields the first record has, once one of k is counted.
+pub fn first_of(s: Sheet, k: u64) -> u64
+    ensures { λ r. ⌜ r ≡ cond (eqb (s .records) 0) k (s .first) ⌝ }
+{
+    if s.records == 0 {
+        return k;
+    }
+    s.first
+}
+
+// How many records have another number of fields, once one of k is counted.
+pub fn others_of(others: u64, k: u64, first: u64) -> u64
+    requires { ⌜ others < 18446744073709551615 ⌝ }
+    ensures { λ r. ⌜ r ≡ cond (eqb k first) others (others + 1) ⌝ }
+{
+    if k == first {
+        return others;
+    }
+    others + 1
+}
+
+// One record more, of k fields, which takes so many bytes and ends before a spot.
+pub fn counted(s: Sheet, k: u64, next: u64, spot: Spot) -> Sheet
+    requires { ⌜ (s .passed + next < 18446744073709551616) × (s .records < 18446744073709551615) × (s .others < 18446744073709551615) ⌝ }
+    ensures { λ r. ⌜ Counted s k next spot r ⌝ }
+{
+    let first = first_of(s, k);
+    let others = others_of(s.others, k, first);
+    Sheet {
+        passed: s.passed + next,
+        line: spot.line,
+        byte: spot.byte,
+        records: s.records + 1,
+        first,
+        others,
+    }
+}

@@ -7,8 +7,8 @@ use native.Mathlib.Omega.{arith}
 use borrow.Author.Tests.{eq-eqb, ne-eqb, ltb-true}
 use lib.Dec.{eqb, ltb}
 use lib.ListN.{length, take, drop, length-take, length-drop}
-use Rattle.import.specs.declared.counts.Spot.{Spot}
-use Rattle.import.specs.declared.counts.Sheet.{Sheet}
+use Rattle.import.specs.declared.Spot.{Spot}
+use Rattle.import.specs.declared.Sheet.{Sheet}
 use Rattle.import.specs.Spots.{Behind}
 use Rattle.import.specs.declared.Taken.{Taken}
 use Rattle.import.specs.Settled.{stands}

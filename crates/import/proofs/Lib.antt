@@ -9,3 +9,4 @@ pub mod Fields
 pub mod Fitting
 pub mod Counting
 pub mod Turning
+pub mod Whatever

@@ -5,7 +5,7 @@ use Prim.Native.Nat.{ℕ, _≤_, _<_}
 use native.Mathlib.Omega.{arith}
 use borrow.Author.Tests.{eq-eqb, ne-eqb, eqb-true}
 use lib.Dec.{eqb}
-use Rattle.import.specs.declared.input.Filled.{Filled}
+use Rattle.import.specs.declared.Filled.{Filled}
 use Rattle.import.specs.declared.Taken.{Taken}
 use Rattle.import.specs.declared.Stand.{Stand}
 use Rattle.import.specs.Sheets.{Went, Begun, Stands, Turned}

@@ -6,9 +6,9 @@ use mathlib.Core.List.{List}
 use lib.Dec.{eqb}
 use lib.ListN.{length}
 use Rattle.record.specs.Undone.{undone, part}
-use Rattle.import.specs.declared.counts.Spot.{Spot}
-use Rattle.import.specs.declared.output.Said.{Said}
-use Rattle.import.specs.declared.counts.Sheet.{Sheet}
+use Rattle.import.specs.declared.Spot.{Spot}
+use Rattle.import.specs.declared.Said.{Said}
+use Rattle.import.specs.declared.Sheet.{Sheet}
 use Rattle.import.specs.declared.Taken.{Taken}
 use Rattle.import.specs.declared.Stand.{Stand}
 use Rattle.import.specs.Lines.{fieldLine}

@@ -5,7 +5,7 @@ use mathlib.Core.Bool.{cond}
 use mathlib.Core.List.{List, [], _∷_}
 use lib.Dec.{eqb}
 use lib.ListN.{length}
-use Rattle.import.specs.declared.counts.Spot.{Spot}
+use Rattle.import.specs.declared.Spot.{Spot}
 
 -- behind one byte, and behind some, of which the first stood on this line, or was this byte of its line
 abbrev pub lineOn : (line b : ℕ) → ℕ

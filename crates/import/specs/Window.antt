@@ -5,7 +5,7 @@ use mathlib.Core.Path.{_≡_}
 use mathlib.Core.Bool.{false}
 use mathlib.Core.List.{List}
 use lib.ListN.{length, take}
-use Rattle.import.specs.declared.input.Filled.{Filled}
+use Rattle.import.specs.declared.Filled.{Filled}
 
 pub record Fills (before : List ℕ) (held : ℕ) (r : Filled) (after : List ℕ) : Type 0 where
   pub more : held ≤ r .held

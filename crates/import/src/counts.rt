@@ -1,27 +1,14 @@
-// What is counted: lines and bytes passed, records, and their fields.
+// What is counted, and when an answer is settled.
+use super::Sheet;
+use super::Spot;
 ghost use mathlib.Core.Path.{_≡_};
-ghost use Prim.Native.Nat.{_+_, _<_};
-ghost use mathlib.Core.Bool.{cond};
+ghost use Prim.Native.Nat.{_+_, _≤_, _<_, min};
+ghost use mathlib.Core.Bool.{cond, true};
 ghost use lib.Dec.{eqb};
 ghost use lib.ListN.{length};
 ghost use Rattle.import.specs.Spots.{lineOn, byteOn, Behind};
+ghost use Rattle.import.specs.Settled.{stands, settled};
 ghost use Rattle.import.specs.Sheets.{Counted};
-
-// A line and a byte of it, both from 1.
-pub struct Spot {
-    pub line: u64,
-    pub byte: u64,
-}
-
-// What was counted: bytes passed, line and byte of the next one, records, fields of the first, and records with another number of fields.
-pub struct Sheet {
-    pub passed: u64,
-    pub line: u64,
-    pub byte: u64,
-    pub records: u64,
-    pub first: u64,
-    pub others: u64,
-}
 
 // Behind one more byte.
 pub fn behind(s: Spot, b: u8) -> Spot
@@ -52,6 +39,45 @@ pub fn spot_behind(part: &[u8], first: Spot) -> Spot
         i += 1;
     }
     s
+}
+
+// Whether a byte stands at a position.
+pub fn stands(text: &[u8], at: usize, b: u8) -> bool
+    ensures { λ r. ⌜ r ≡ stands (now (text .entry)) at b ⌝ }
+{
+    if at < text.len() {
+        return text[at] == b;
+    }
+    false
+}
+
+// Whether an answer on a text is the answer whatever comes after the text.
+pub fn settled(text: &[u8], last: bool, number: u8, at: usize) -> bool
+    ensures { λ r. ⌜ r ≡ settled (now (text .entry)) last number at ⌝ }
+{
+    if last {
+        return true;
+    }
+    if number == 0 {
+        if at == 0 {
+            return false;
+        }
+        return stands(text, at - 1, 10);
+    }
+    if number != 9 {
+        return false;
+    }
+    if stands(text, at, 13) {
+        return at + 1 < text.len();
+    }
+    true
+}
+
+// Whether the input begins with a byte-order mark.
+pub fn marked(window: &[u8]) -> bool
+    ensures { λ r. ⌜ (r ≡ true → 3 ≤ length (now (window .entry))) ⌝ }
+{
+    stands(window, 0, 239) & (stands(window, 1, 187) & stands(window, 2, 191))
 }
 
 // How many fields the first record has, once one of k is counted.
@@ -90,4 +116,11 @@ pub fn counted(s: Sheet, k: u64, next: u64, spot: Spot) -> Sheet
         first,
         others,
     }
+}
+
+// The smaller of two numbers.
+pub fn least(a: usize, b: usize) -> usize
+    ensures { λ r. ⌜ r ≡ min a b ⌝ }
+{
+    if a < b { a } else { b }
 }

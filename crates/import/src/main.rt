@@ -1,23 +1,40 @@
 // Reads comma-separated text from standard input and writes its records, field by field.
-mod counts; // counts.rt: lines, bytes, records and fields
-mod input; // input.rt: the window on the input
-mod output; // output.rt: what is collected and written
-mod printed; // printed.rt: the lines
+mod prints; // prints.rt: the lines that are printed
+mod counts; // counts.rt: what is counted, and when an answer is settled
+mod windows; // windows.rt: the window that is read into, and the output that is collected
+mod takes; // takes.rt: the record at the front of a text
 
-use counts::Sheet;
-use counts::Spot;
-use input::Filled;
 use libc::STDERR_FILENO;
 use libc::STDOUT_FILENO;
-use output::Said;
 ghost use mathlib.Core.Path.{_≡_};
 ghost use Prim.Native.Nat.{_≤_, _<_};
-ghost use mathlib.Core.Bool.{true};
 ghost use lib.ListN.{length};
-ghost use Rattle.import.specs.Sheets.{Fit, Took, Went, Started, Begun, Stands, Turned, Sane};
+ghost use Rattle.import.specs.Sheets.{Started, Begun, Stands, Turned, Sane};
 
 // No run passes so many bytes.
 const ENOUGH: u64 = 18446744073709420543; // 2^64 − 131073
+
+// A line and a byte of it, both from 1.
+struct Spot {
+    line: u64,
+    byte: u64,
+}
+
+// How many bytes are collected for the output, and whether it took those before them.
+struct Said {
+    at: usize,
+    heard: bool,
+}
+
+// What was counted: bytes passed, line and byte of the next one, records, fields of the first, and records with another number of fields.
+struct Sheet {
+    passed: u64,
+    line: u64,
+    byte: u64,
+    records: u64,
+    first: u64,
+    others: u64,
+}
 
 // What a text began with: how many bytes are done with, none if the record is not settled, or refused.
 struct Taken {
@@ -27,141 +44,17 @@ struct Taken {
     said: Said,
 }
 
-// A refusal, for the byte at a place: its line, and nothing is taken.
-fn refuse(text: &[u8], number: u8, at: usize, sheet: Sheet, out: &mut [u8], said: Said) -> Taken
-    requires { ⌜ (at ≤ length (now text)) × Fit sheet (length (now text)) × (said .at ≤ length (now out)) × (262145 ≤ length (now out)) ⌝ }
-    ensures { λ r. ⌜ Took sheet (length (now (text .entry))) (length (now (out .entry))) r ⌝ }
-{
-    let first = Spot {
-        line: sheet.line,
-        byte: sheet.byte,
-    };
-    let spot = counts::spot_behind(&text[0..at], first);
-    let s = output::room(said, 120, out);
-    let heard = s.heard;
-    let end = printed::put_refused(sheet.records + 1, spot.line, spot.byte, number, out, s.at);
-    Taken {
-        next: 0,
-        refused: true,
-        sheet,
-        said: Said { at: end, heard },
-    }
+// What one read gave: how many bytes, and whether it failed.
+struct Got {
+    count: usize,
+    failed: bool,
 }
 
-// A record that is taken: its line and its fields'.
-fn list(
-    text: &[u8],
-    next: usize,
-    slots: &[u32],
-    theirs: &[u32],
-    n: usize,
-    field: &mut [u8],
-    sheet: Sheet,
-    out: &mut [u8],
-    said: Said,
-) -> Taken
-    requires { ⌜ (0 < next) × (next ≤ length (now text)) × (n ≤ length (now slots)) × (n ≤ length (now theirs)) × (length (now field) ≤ 65535) ⌝ }
-    requires { ⌜ Fit sheet (length (now text)) × (said .at ≤ length (now out)) × (262145 ≤ length (now out)) ⌝ }
-    ensures { λ r. ⌜ Took sheet (length (now (text .entry))) (length (now (out .entry))) r ⌝ }
-{
-    let first = Spot {
-        line: sheet.line,
-        byte: sheet.byte,
-    };
-    let spot = counts::spot_behind(&text[0..next], first);
-    let after = counts::counted(sheet, n as u64, next as u64, spot);
-    let s = output::room(said, 100, out);
-    let heard = s.heard;
-    let at = printed::put_record(after.records, n as u64, after.first, out, s.at);
-    let all = output::say_fields(text, slots, theirs, n, field, out, Said { at, heard });
-    Taken {
-        next,
-        refused: false,
-        sheet: after,
-        said: all,
-    }
-}
-
-// The record at the front of a text, if it is settled.
-fn take(
-    text: &[u8],
-    last: bool,
-    slots: &mut [u32],
-    theirs: &mut [u32],
-    field: &mut [u8],
-    sheet: Sheet,
-    out: &mut [u8],
-    said: Said,
-) -> Taken
-    requires { ⌜ (0 < length (now text)) × (length (now text) ≤ 65535) × (length (now slots) ≡ length (now theirs)) × (length (now field) ≤ 65535) ⌝ }
-    requires { ⌜ Fit sheet (length (now text)) × (said .at ≤ length (now out)) × (262145 ≤ length (now out)) ⌝ }
-    ensures { λ r. ⌜ Took sheet (length (now (text .entry))) (length (now (out .entry))) r ⌝ }
-{
-    let seen = record::judge(text);
-    let at = seen.value as usize;
-    if !input::settled(text, last, seen.number, at) {
-        return Taken {
-            next: 0,
-            refused: false,
-            sheet,
-            said,
-        };
-    }
-    if seen.number != 0 {
-        return refuse(text, seen.number, at, sheet, out, said);
-    }
-    let got = record::read(text, vector::state(0), slots, vector::state(0), theirs);
-    if got.number != 0 {
-        return refuse(text, 6, 0, sheet, out, said);
-    }
-    let v = got.first;
-    list(text, at, slots, theirs, v.len, field, sheet, out, said)
-}
-
-// Whether there may be another record behind one.
-fn goes_on(t: Taken) -> bool
-    ensures { λ r. ⌜ (r ≡ true → 0 < t .next) ⌝ }
-{
-    let said = t.said;
-    (0 < t.next) & said.heard
-}
-
-// The settled records at the front of the window, one after another; whole says that the input ends with it. Next is then where the rest begins.
-fn take_all(
-    window: &[u8],
-    whole: bool,
-    slots: &mut [u32],
-    theirs: &mut [u32],
-    field: &mut [u8],
-    out: &mut [u8],
-    first: Taken,
-) -> Taken
-    requires { ⌜ (first .next ≤ length (now window)) × (length (now slots) ≡ length (now theirs)) × (length (now field) ≤ 65535) × (262145 ≤ length (now out)) ⌝ }
-    requires { ⌜ Fit (first .sheet) (length (now window)) × (first .said .at ≤ length (now out)) ⌝ }
-    ensures { λ r. ⌜ Went first (length (now (window .entry))) (length (now (out .entry))) r ⌝ }
-{
-    let mut t = first;
-    let mut at = first.next;
-    let mut go = true;
-    while go && at < window.len() {
-        let end = at + input::least(65535, window.len() - at);
-        let sheet = t.sheet;
-        let said = t.said;
-        t = take(
-            &window[at..end],
-            whole & (end == window.len()),
-            slots,
-            theirs,
-            field,
-            sheet,
-            out,
-            said,
-        );
-        at += t.next;
-        go = goes_on(t);
-    }
-    t.next = at;
-    t
+// The window once it is filled: how many bytes it holds, whether the input ended with them, and whether it failed there.
+struct Filled {
+    held: usize,
+    ended: bool,
+    failed: bool,
 }
 
 // Between two windows: what the window holds, what was taken from its front, and how it ended, 0 while it goes on.
@@ -211,7 +104,7 @@ fn turn(
     let f = s.filled;
     let first = s.taken;
     let held = f.held;
-    let mut t = take_all(&window[0..held], f.ended, slots, theirs, field, out, first);
+    let mut t = takes::take_all(&window[0..held], f.ended, slots, theirs, field, out, first);
     let ending = ending_of(f, t);
     if ending != 0 {
         return Stand {
@@ -221,8 +114,8 @@ fn turn(
         };
     }
     let next = t.next;
-    input::shift(window, next, held);
-    let filled = input::fill(window, held - next);
+    windows::shift(window, next, held);
+    let filled = windows::fill(window, held - next);
     t.next = 0;
     Stand {
         filled,
@@ -236,8 +129,8 @@ fn begin(window: &[u8], out: &mut [u8]) -> Taken
     requires { ⌜ 262145 ≤ length (now out) ⌝ }
     ensures { λ r. ⌜ Begun (length (now (window .entry))) (length (now (out .entry))) r ⌝ }
 {
-    if input::marked(window) {
-        let at = printed::put_text(b"byte-order mark skipped\n", out, 0);
+    if counts::marked(window) {
+        let at = prints::put_text(b"byte-order mark skipped\n", out, 0);
         return started(3, at);
     }
     started(0, 0)
@@ -274,7 +167,7 @@ fn run(
     requires { ⌜ (length (now window) ≤ 65536) × (length (now slots) ≡ length (now theirs)) × (length (now field) ≤ 65535) × (262145 ≤ length (now out)) ⌝ }
     ensures { λ r. ⌜ Stands r (length (now (window .entry))) (length (now (out .entry))) ⌝ }
 {
-    let filled = input::fill(window, 0);
+    let filled = windows::fill(window, 0);
     let held = filled.held;
     let taken = begin(&window[0..held], out);
     let mut s = Stand {
@@ -314,9 +207,9 @@ fn too_long(s: Stand, out: &mut [u8]) -> Said
     if sheet.records == u64::MAX {
         return said;
     }
-    let r = output::room(said, 120, out);
+    let r = windows::room(said, 120, out);
     let heard = r.heard;
-    let at = printed::put_refused(sheet.records + 1, sheet.line, sheet.byte, 11, out, r.at);
+    let at = prints::put_refused(sheet.records + 1, sheet.line, sheet.byte, 11, out, r.at);
     Said { at, heard }
 }
 
@@ -335,11 +228,11 @@ fn words_of(ending: u8) -> u8 {
 fn finish(s: Stand, out: &mut [u8])
     requires { ⌜ (s .taken .said .at ≤ length (now out)) × (262145 ≤ length (now out)) × Sane (s .taken .sheet) ⌝ }
 {
-    let said = output::room(too_long(s, out), 120, out);
+    let said = windows::room(too_long(s, out), 120, out);
     let t = s.taken;
     let sheet = t.sheet;
     let words = words_of(s.ending);
-    let end = printed::put_last(
+    let end = prints::put_last(
         sheet.records,
         sheet.first,
         sheet.others,

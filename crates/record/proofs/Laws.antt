@@ -9,6 +9,7 @@ pub mod Spans
 pub mod Stopping
 pub mod Passing
 pub mod Laying
+pub mod Placing
 pub mod Inside
 pub mod Order
 pub mod Saying

@@ -12,7 +12,7 @@ ghost use Rattle.record.specs.Scan.{special, starts, scanned};
 ghost use Rattle.vector.specs.Seen.{state};
 ghost use Rattle.pairs.specs.Vectors.{says};
 ghost use Rattle.record.specs.Places.{firsts, lasts};
-ghost use Rattle.record.specs.Steps.{run, any, isQuote, bodyRun, fieldAt, stopOf, comesTo, tally, Judged};
+ghost use Rattle.record.specs.Steps.{run, any, isQuote, bodyRun, fieldAt, stopOf, numberOf, comesTo, tally, Judged};
 ghost use Rattle.record.specs.Recorded.{longest, told, judges, early, Records};
 
 // The field at a place: where its bytes start and end, and the position behind it.
@@ -189,22 +189,22 @@ fn behind(text: &[u8], at: usize) -> Stop
     Stop::Bad
 }
 
-// A number is kept in slot k, if there is one.
-fn keep(slots: &mut [u32], k: usize, x: usize)
-    requires { ⌜ x < 4294967296 ⌝ }
-    ensures { λ _. ⌜ now (slots .exit) ≡ set (now (slots .entry)) k x ⌝ }
+// A number is kept in slot k, if it is one of the sixteen.
+fn keep(kept: &mut [u32; 16], k: usize, x: usize)
+    requires { ⌜ (length (now kept) ≡ 16) × (x < 4294967296) ⌝ }
+    ensures { λ _. ⌜ now (kept .exit) ≡ set (now (kept .entry)) k x ⌝ }
 {
-    if k < slots.len() {
-        slots[k] = x as u32;
+    if k < 16 {
+        kept[k] = x as u32;
     }
 }
 
-// The text is gone through, field by field: what it comes to, and the fields' places, as many as there are slots for.
-fn pass(text: &[u8], slots: &mut [u32], theirs: &mut [u32]) -> Verdict
-    requires { ⌜ length (now text) ≤ longest ⌝ }
+// The text is gone through, field by field: what it comes to, and the places of the first sixteen fields.
+fn pass(text: &[u8], begins: &mut [u32; 16], ends: &mut [u32; 16]) -> Verdict
+    requires { ⌜ (length (now text) ≤ longest) × (length (now begins) ≡ 16) × (length (now ends) ≡ 16) ⌝ }
     ensures { λ r. ⌜ r ≡ tally 0 (scanned (now (text .entry))) ⌝ }
-    ensures { λ _. ⌜ now (slots .exit) ≡ sets (now (slots .entry)) 0 (firsts (scanned (now (text .entry)) .fields)) ⌝ }
-    ensures { λ _. ⌜ now (theirs .exit) ≡ sets (now (theirs .entry)) 0 (lasts (scanned (now (text .entry)) .fields)) ⌝ }
+    ensures { λ _. ⌜ now (begins .exit) ≡ sets (now (begins .entry)) 0 (firsts (scanned (now (text .entry)) .fields)) ⌝ }
+    ensures { λ _. ⌜ now (ends .exit) ≡ sets (now (ends .entry)) 0 (lasts (scanned (now (text .entry)) .fields)) ⌝ }
 {
     let mut at = 0;
     let mut count = 0;
@@ -212,8 +212,8 @@ fn pass(text: &[u8], slots: &mut [u32], theirs: &mut [u32]) -> Verdict
         let found = field(text, at);
         match found {
             Found::Field { start, end, next } => {
-                keep(slots, count, start);
-                keep(theirs, count, end);
+                keep(begins, count, start);
+                keep(ends, count, end);
                 count += 1;
                 let then = behind(text, next);
                 match then {
@@ -248,9 +248,9 @@ pub fn judge(text: &[u8]) -> Told
     if 65535 < text.len() {
         return tells(11, 0);
     }
-    let mut no_starts = [0u32; 0];
-    let mut no_ends = [0u32; 0];
-    let v = pass(text, &mut no_starts, &mut no_ends);
+    let mut begins = [0u32; 16];
+    let mut ends = [0u32; 16];
+    let v = pass(text, &mut begins, &mut ends);
     tells(v.number, v.at as u32)
 }
 
@@ -296,6 +296,31 @@ fn lay(slots: &mut [u32], theirs: &mut [u32], begins: &[u32], ends: &[u32], coun
     }
 }
 
+// Where each field starts and ends goes into the slots. A comma stands behind each but the last.
+fn place_all(text: &[u8], count: usize, slots: &mut [u32], theirs: &mut [u32])
+    requires { ⌜ (length (now text) ≤ longest) × (count ≡ length (scanned (now text) .fields)) × (numberOf (scanned (now text) .ending) ≡ 0) ⌝ }
+    requires { ⌜ (count ≤ length (now slots)) × (count ≤ length (now theirs)) ⌝ }
+    ensures { λ _. ⌜ now (slots .exit) ≡ sets (now (slots .entry)) 0 (firsts (scanned (now (text .entry)) .fields)) ⌝ }
+    ensures { λ _. ⌜ now (theirs .exit) ≡ sets (now (theirs .entry)) 0 (lasts (scanned (now (text .entry)) .fields)) ⌝ }
+{
+    let mut at = 0;
+    let mut k = 0;
+    while k < count {
+        let found = field(text, at);
+        match found {
+            Found::Field { start, end, next } => {
+                slots[k] = start as u32;
+                theirs[k] = end as u32;
+                at = next + 1;
+                k += 1;
+            }
+            Found::Unclosed => {
+                return;
+            }
+        }
+    }
+}
+
 // The fields' places go into the slots: those that were kept, or, of a record with more fields than that, those that are found again.
 fn place(
     text: &[u8],
@@ -305,13 +330,13 @@ fn place(
     slots: &mut [u32],
     theirs: &mut [u32],
 )
-    requires { ⌜ Judged (now text) count (now begins) (now ends) ⌝ }
+    requires { ⌜ Judged (now text) count (now begins) (now ends) × (numberOf (scanned (now text) .ending) ≡ 0) ⌝ }
     requires { ⌜ (count ≤ length (now slots)) × (count ≤ length (now theirs)) ⌝ }
     ensures { λ _. ⌜ now (slots .exit) ≡ sets (now (slots .entry)) 0 (firsts (scanned (now (text .entry)) .fields)) ⌝ }
     ensures { λ _. ⌜ now (theirs .exit) ≡ sets (now (theirs .entry)) 0 (lasts (scanned (now (text .entry)) .fields)) ⌝ }
 {
     if 16 < count {
-        pass(text, slots, theirs);
+        place_all(text, count, slots, theirs);
         return;
     }
     lay(slots, theirs, begins, ends, count);

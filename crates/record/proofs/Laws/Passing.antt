@@ -22,8 +22,8 @@ use Rattle.record.proofs.Laws.Runs.{none-left}
 use Rattle.record.proofs.Laws.Spans.{afterField, field-scan, within, Within}
 
 -- where there is no slot, nothing is set
-pub beyond : (slots : List ℕ) (k x : ℕ) → length slots ≤ k → slots ≡ set slots k x
-beyond slots k x h = sym (set-out slots k x h)
+pub beyond : (kept : List ℕ) (k x : ℕ) → length kept ≡ 16 → 16 ≤ k → kept ≡ set kept k x
+beyond kept k x sixteen h = sym (set-out kept k x (omega arith))
 
 -- what is read where a field has ended
 abbrev pub afterStop : Stop → (at : ℕ) (f : ℕ × ℕ) (later : Reading) → Reading

@@ -91,6 +91,9 @@ all-kept l zeros kept count is counted fits =
 abbrev sixteen : List ℕ
 sixteen = replicate 16 0
 
+pub still-sixteen : (l kept : List ℕ) → kept ≡ sets sixteen 0 l → 16 ≡ length kept
+still-sixteen l kept e = sym (ap length e ∙ length-sets sixteen 0 l)
+
 pub judged-kept : (text kept kept-ends : List ℕ) (v : Verdict) → length text ≤ longest → v ≡ tally 0 (scanned text)
     → kept ≡ sets sixteen 0 (firsts (scanned text .fields)) → kept-ends ≡ sets sixteen 0 (lasts (scanned text .fields)) → Judged text (v .count) kept kept-ends
 judged-kept text kept kept-ends v short is starts-are ends-are =
@@ -159,6 +162,9 @@ module _ (text : List ℕ) (first second : Vector) (s z : List ℕ) (m : ℕ) (i
 
       count-is : v .count ≡ length (scanned text .fields)
       count-is = ap (λ (v : Verdict). v .count) is-v ∙ omega arith
+
+      pub reads-well : v .number ≡ 0 → numberOf (scanned text .ending) ≡ 0
+      reads-well e = sym number-is ∙ e
 
       pub late-refused : (a : Both) → (v .number ≡ 0 → ⊥) → a ≡ says (v .number) 0 first second → Records text first s second z a s z
       unfolding records

@@ -10,8 +10,6 @@ judge-spec =
     (tie.spec
     (λ c κs. search needs)
     (λ c. search (judged-long, needs))
-    (λ c. search needs)
-    (λ c. search needs)
     (λ c κs. search needs)
     (λ c. search (place-fits, needs))
     (λ c κs. search needs)

@@ -5,7 +5,7 @@ use mathlib.Core.Path.{_≡_}
 use mathlib.Core.Bool.{Bool, false, cond, _&&_, _||_}
 use mathlib.Core.List.{List, [], _∷_}
 use lib.Dec.{eqb, ltb}
-use lib.ListN.{length, take, drop}
+use lib.ListN.{length, getD, take, drop}
 use Rattle.record.specs.Grammar.{comma, quote, cr, lf}
 use Rattle.record.specs.Scan.{Ending, done, bad, unclosed, Reading, special, starts, scanned}
 use Rattle.record.specs.Places.{firsts, lasts}
@@ -71,6 +71,10 @@ comesTo number count at = record { number = number; count = count; at = at }
 
 abbrev pub tally : (k : ℕ) → Reading → Verdict
 tally k r = comesTo (numberOf (r .ending)) (k + length (r .fields)) (placeOf (r .ending))
+
+-- the position behind the byte at a position of a field, of which two quotes are one
+abbrev pub past : (s : List ℕ) (at : ℕ) → ℕ
+past s at = cond (eqb (getD s at 0) quote && starts quote (drop (at + 1) s)) (at + 2) (at + 1)
 
 -- a text was judged: it has so many fields, and the places of the first sixteen were kept
 pub record Judged (text : List ℕ) (count : ℕ) (kept kept-ends : List ℕ) : Type 0 where

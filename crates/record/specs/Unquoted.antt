@@ -1,14 +1,12 @@
 -- What the call that undoes doubled quotes gives: its answer, and every byte of the lent text.
-use Prim.Native.Nat.{ℕ, _+_}
+use Prim.Native.Nat.{ℕ}
 use mathlib.Core.Path.{_≡_}
-use mathlib.Core.Bool.{Bool, not, cond, _&&_}
+use mathlib.Core.Bool.{Bool, not}
 use mathlib.Core.List.{List, [], _∷_, _++_}
-use lib.Dec.{eqb, ltb}
-use lib.ListN.{length, getD, drop}
+use lib.Dec.{ltb}
+use lib.ListN.{length, drop}
 use Rattle.table.specs.Tray.{within}
 use Rattle.record.specs.declared.Told.{Told}
-use Rattle.record.specs.Grammar.{quote}
-use Rattle.record.specs.Scan.{starts}
 use Rattle.record.specs.Undone.{undone, part}
 use Rattle.record.specs.Recorded.{longest, told, firstOf}
 
@@ -37,7 +35,3 @@ unquotes text start end out =
 -- The promise of `field_text`.
 pub record Unquotes (text : List ℕ) (start end : ℕ) (out : List ℕ) (r : Told) (out′ : List ℕ) : Type 0 where
   pub row : unquoted r out′ ≡ unquotes text start end out
-
--- the position behind the byte at a position, of which two quotes are one: what the code goes by
-abbrev pub past : (s : List ℕ) (at : ℕ) → ℕ
-past s at = cond (eqb (getD s at 0) quote && starts quote (drop (at + 1) s)) (at + 2) (at + 1)

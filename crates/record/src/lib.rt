@@ -114,7 +114,8 @@ fn next_quote(text: &[u8], from: usize) -> usize
 {
     let mut i = clear_blocks(text, from);
     while i < text.len() {
-        if text[i] == 34 {
+        let b = text[i];
+        if b == 34 {
             return i;
         }
         i += 1;
@@ -174,11 +175,11 @@ fn behind(text: &[u8], at: usize) -> Stop
     }
     let b = text[at];
     let second = at + 1;
-    if b == 44 {
-        return Stop::Comma;
-    }
     if b == 10 {
         return Stop::End(second);
+    }
+    if b == 44 {
+        return Stop::Comma;
     }
     if b != 13 {
         return Stop::Bad;

@@ -7,7 +7,8 @@ ghost use Prim.Native.Nat.{_<_, _≤_};
 ghost use lib.ListN.{length};
 ghost use lib.Seq.{sets};
 ghost use Rattle.record.specs.Undone.{undone};
-ghost use Rattle.record.specs.Unquoted.{past, Unquotes};
+ghost use Rattle.record.specs.Steps.{past};
+ghost use Rattle.record.specs.Unquoted.{Unquotes};
 
 // The position behind a byte of the field: two quotes are one byte.
 fn behind_byte(part: &[u8], at: usize) -> usize

@@ -18,10 +18,10 @@ module _ (s : List ℕ) (at : ℕ) (h : at < length s) where
   pub at-comma : getD s at 0 ≡ 44 → Comma ≡ stopOf at (drop at s)
   at-comma is = sym (ap (stopOf at) (left s at h) ∙ simp (eq-eqb _ 44 is))
 
-  module _ (no-comma : getD s at 0 ≡ 44 → ⊥) where
-    pub at-lf : getD s at 0 ≡ 10 → End (at + 1) ≡ stopOf at (drop at s)
-    at-lf is = sym (ap (stopOf at) (left s at h) ∙ simp (ne-eqb _ 44 no-comma, eq-eqb _ 10 is))
+  pub at-lf : getD s at 0 ≡ 10 → End (at + 1) ≡ stopOf at (drop at s)
+  at-lf is = sym (ap (stopOf at) (left s at h) ∙ simp (ne-eqb (getD s at 0) 44 (λ x. omega arith), eq-eqb (getD s at 0) 10 is))
 
+  module _ (no-comma : getD s at 0 ≡ 44 → ⊥) where
     module _ (no-lf : getD s at 0 ≡ 10 → ⊥) where
       pub at-other : (getD s at 0 ≡ 13 → ⊥) → Bad ≡ stopOf at (drop at s)
       at-other other = sym (ap (stopOf at) (left s at h) ∙ simp (ne-eqb _ 44 no-comma, ne-eqb _ 10 no-lf, ne-eqb _ 13 other))

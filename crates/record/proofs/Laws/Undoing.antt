@@ -11,10 +11,11 @@ use lib.ListN.{length, getD, drop, set, length-set, length-take, length-drop}
 use lib.Seq.{sets, sets-eq, drop-drop}
 use Rattle.record.specs.Grammar.{quote}
 use Rattle.record.specs.Scan.{starts}
+use Rattle.record.specs.Steps.{past}
 use Rattle.record.specs.Undone.{undone, part}
 use Rattle.record.specs.declared.Told.{Told}
 use Rattle.record.specs.Recorded.{longest, told}
-use Rattle.record.specs.Unquoted.{unquoted, unquotes, Unquotes, past}
+use Rattle.record.specs.Unquoted.{unquoted, unquotes, Unquotes}
 use Rattle.record.proofs.Laws.Runs.{left, none-left, inside}
 
 -- what the code finds behind a byte

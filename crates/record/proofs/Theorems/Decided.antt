@@ -180,6 +180,23 @@ pub bad-decided : (text : List ℕ) (p : ℕ) (others : List ℕ) → scanned te
     → scanned (text ++ others) ≡ scanned text
 bad-decided text p others e alone = bad-before text p others e (λ last is-cr. absurd (alone last is-cr))
 
+-- What stands behind that byte may be anything: only behind a CR it may not be an LF.
+pub bad-cut : (text : List ℕ) (p : ℕ) (others : List ℕ) → scanned text .ending ≡ bad p → (getD text p 0 ≡ cr → starts lf others ≡ false)
+    → scanned (take (p + 1) text ++ others) ≡ scanned text
+bad-cut text p others e alone =
+    let w = wrong-at text p e in
+    let fields = scanned text .fields in
+    let place : p ≡ 0 + length (w .before) = w .place in
+    let whole : text ≡ (w .before ++ (w .byte ∷ [])) ++ w .behind = w .whole ∙ sym (append-assoc (w .before) (w .byte ∷ []) (w .behind)) in
+    let cut : take (p + 1) text ≡ w .before ++ (w .byte ∷ []) =
+    ap (take (p + 1)) whole ∙ take-at (w .before ++ (w .byte ∷ [])) (w .behind) (p + 1) (omega (arith, length-append (w .before) (w .byte ∷ []))) in
+    let none : lineEnd (w .byte) others ≡ false = not-both (eqb (w .byte) cr) (starts lf others) (λ x. alone (at-fault text p w ∙ eqb-true (w .byte) cr x)) in
+    ap (λ (t : List ℕ). scanned (t ++ others)) cut
+    ∙ ap scanned (append-assoc (w .before) (w .byte ∷ []) others)
+    ∙ w .goes others
+    ∙ ap (λ c. cond c (upTo fields (done (p + 2))) (upTo fields (bad p))) none
+    ∙ sym (ap (upTo fields) e)
+
 -- the same by the grammar alone
 pub bad-stays : (text : List ℕ) (p : ℕ) (others : List ℕ) → Bad text → BadAt text p → (p + 1 ≡ length text → getD text p 0 ≡ cr → ⊥)
     → Bad (text ++ others) × BadAt (text ++ others) p

@@ -44,9 +44,9 @@ doubled-body (b ∷ s) at rest =
     (λ e. subst (λ k. Body at (b ∷ (doubled s ++ rest)) k rest) one (Body.byte (eqb-false b quote e) (doubled-body s (at + 1) rest)))
 
 -- where the fields are that are written from a position on
-pub places : (at : ℕ) → List (List ℕ) → List (ℕ × ℕ)
-places at [] = []
-places at (f ∷ fs) = (at + 1, at + 1 + length (doubled f)) ∷ places (at + 3 + length (doubled f)) fs
+pub writtenAt : (at : ℕ) → List (List ℕ) → List (ℕ × ℕ)
+writtenAt at [] = []
+writtenAt at (f ∷ fs) = (at + 1, at + 1 + length (doubled f)) ∷ writtenAt (at + 3 + length (doubled f)) fs
 
 quoted-size : (f : List ℕ) → length (quotedField f) ≡ 2 + length (doubled f)
 quoted-size f = omega (arith, length-append (doubled f) (quote ∷ []))
@@ -72,8 +72,8 @@ more-fields f w rest at fields r =
     rw (all, to) (Fields.andMore (quoted-field f at (comma ∷ (w ++ rest))) later)
 
 written-fields : (f : List ℕ) (fs : List (List ℕ)) (at : ℕ) (rest : List ℕ)
-    → Fields at (written (f ∷ fs) ++ rest) (places at (f ∷ fs)) (at + length (written (f ∷ fs))) rest
-unfolding written places
+    → Fields at (written (f ∷ fs) ++ rest) (writtenAt at (f ∷ fs)) (at + length (written (f ∷ fs))) rest
+unfolding written writtenAt
 written-fields f [] at rest = Fields.last (quoted-field f at rest)
 written-fields f (g ∷ fs) at rest = more-fields f (written (g ∷ fs)) rest at _ (written-fields g fs (at + 3 + length (doubled f)) rest)
 
@@ -113,19 +113,19 @@ own-more f w rest before at fields gs size later =
     cc
 
 written-own : (f : List ℕ) (fs : List (List ℕ)) (at : ℕ) (before rest : List ℕ) → length before ≡ at
-    → ownBytes (before ++ (written (f ∷ fs) ++ rest)) (places at (f ∷ fs)) ≡ f ∷ fs
-unfolding written places ownBytes
+    → ownBytes (before ++ (written (f ∷ fs) ++ rest)) (writtenAt at (f ∷ fs)) ≡ f ∷ fs
+unfolding written writtenAt ownBytes
 written-own f [] at before rest size = ap (λ (t : List ℕ). t ∷ []) (own-first f before rest at size)
 written-own f (g ∷ fs) at before rest size =
     let mid = at + 3 + length (doubled f) in
-    own-more f (written (g ∷ fs)) rest before at (places mid (g ∷ fs)) (g ∷ fs) size (λ before′ size′. written-own g fs mid before′ rest size′)
+    own-more f (written (g ∷ fs)) rest before at (writtenAt mid (g ∷ fs)) (g ∷ fs) size (λ before′ size′. written-own g fs mid before′ rest size′)
 
-pub written-back : (f : List ℕ) (fs : List (List ℕ)) (rest : List ℕ) → ownBytes (written (f ∷ fs) ++ rest) (places 0 (f ∷ fs)) ≡ f ∷ fs
+pub written-back : (f : List ℕ) (fs : List (List ℕ)) (rest : List ℕ) → ownBytes (written (f ∷ fs) ++ rest) (writtenAt 0 (f ∷ fs)) ≡ f ∷ fs
 written-back f fs rest = written-own f fs 0 [] rest refl
 
 -- There and back: the record that was written is read, up to where it ends, and its fields' own bytes are those that were written.
 module _ (f : List ℕ) (fs : List (List ℕ)) (rest : List ℕ) (next : ℕ) (ends : Ends (length (written (f ∷ fs))) rest next) where
-  pub written-reads : Reads (written (f ∷ fs) ++ rest) (places 0 (f ∷ fs)) next
+  pub written-reads : Reads (written (f ∷ fs) ++ rest) (writtenAt 0 (f ∷ fs)) next
   written-reads =
       let to : length (written (f ∷ fs)) ≡ 0 + length (written (f ∷ fs)) = omega arith in
       From.from (written-fields f fs 0 rest) (rw to at ends)
@@ -134,5 +134,5 @@ module _ (f : List ℕ) (fs : List (List ℕ)) (rest : List ℕ) (next : ℕ) (e
   pub round-trip : (fields : List (ℕ × ℕ)) (next′ : ℕ) → Reads (written (f ∷ fs) ++ rest) fields next′
       → (next′ ≡ next) × (ownBytes (written (f ∷ fs) ++ rest) fields ≡ f ∷ fs)
   round-trip fields next′ r =
-      let same = only-one (written (f ∷ fs) ++ rest) fields (places 0 (f ∷ fs)) next′ next r written-reads in
+      let same = only-one (written (f ∷ fs) ++ rest) fields (writtenAt 0 (f ∷ fs)) next′ next r written-reads in
       (same .1, ap (ownBytes (written (f ∷ fs) ++ rest)) (same .0) ∙ written-back f fs rest)

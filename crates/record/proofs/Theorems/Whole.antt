@@ -17,23 +17,23 @@ use Rattle.record.proofs.Laws.Local.{fields-local}
 use Rattle.record.proofs.Theorems.RoundTrip.{part-at, undone-byte}
 
 -- no byte of a name is a quote
-abbrev pub Unquoted : (name : List ℕ) → Type 0
-Unquoted name = (i : ℕ) → i < length name → getD name i 0 ≡ quote → ⊥
+abbrev pub NoQuote : (name : List ℕ) → Type 0
+NoQuote name = (i : ℕ) → i < length name → getD name i 0 ≡ quote → ⊥
 
-head-unquoted : (b : ℕ) (s : List ℕ) → Unquoted (b ∷ s) → b ≡ quote → ⊥
+head-unquoted : (b : ℕ) (s : List ℕ) → NoQuote (b ∷ s) → b ≡ quote → ⊥
 head-unquoted b s h e = h 0 (omega arith) e
 
-tail-unquoted : (b : ℕ) (s : List ℕ) → Unquoted (b ∷ s) → Unquoted s
+tail-unquoted : (b : ℕ) (s : List ℕ) → NoQuote (b ∷ s) → NoQuote s
 tail-unquoted b s h i inside e = h (suc i) (omega arith) e
 
 -- then nothing of it is doubled
-pub undone-unquoted : (name : List ℕ) → Unquoted name → undone name ≡ name
+pub undone-unquoted : (name : List ℕ) → NoQuote name → undone name ≡ name
 unfolding undone
 undone-unquoted [] h = refl
 undone-unquoted (b ∷ s) h =
     undone-byte b s (ne-eqb b quote (head-unquoted b s h)) ∙ ap (λ (t : List ℕ). b ∷ t) (undone-unquoted s (tail-unquoted b s h))
 
-name-body : (name : List ℕ) (at : ℕ) (rest : List ℕ) → Unquoted name → Body at (name ++ rest) (at + length name) rest
+name-body : (name : List ℕ) (at : ℕ) (rest : List ℕ) → NoQuote name → Body at (name ++ rest) (at + length name) rest
 name-body [] at rest h =
     let none : at ≡ at + length {A = ℕ} [] = omega arith in
     subst (λ k. Body at rest k rest) none Body.none
@@ -57,7 +57,7 @@ stops-first f at Stop.bareLf = ([], refl)
 stops-first f at Stop.crlf = ([], refl)
 
 -- The name in quotes, and what may follow a field.
-module _ (name rest : List ℕ) (unquoted : Unquoted name) (ends : Stop rest) where
+module _ (name rest : List ℕ) (unquoted : NoQuote name) (ends : Stop rest) where
   name-field : (at : ℕ) → Field at (quote ∷ (name ++ (quote ∷ rest))) (at + 1) (at + 1 + length name) (at + 1 + length name + 1) rest
   name-field at = Field.escaped (name-body name (at + 1) (quote ∷ rest) unquoted)
 

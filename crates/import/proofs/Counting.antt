@@ -11,7 +11,7 @@ use Rattle.import.specs.declared.Spot.{Spot}
 use Rattle.import.specs.declared.Sheet.{Sheet}
 use Rattle.import.specs.Spots.{Behind}
 use Rattle.import.specs.declared.Taken.{Taken}
-use Rattle.import.specs.Settled.{stands}
+use Rattle.import.specs.Settled.{stands, mark}
 use Rattle.import.specs.Sheets.{Sane, Fit, Counted, Started, Begun}
 use Rattle.import.proofs.Settling.{stood}
 
@@ -44,8 +44,8 @@ goes n h e = ltb-true 0 n (both (ltb 0 n) h e .0)
 pub mark-long : (text : List ℕ) (a b c : Bool) → c ≡ stands text 2 191 → a && (b && c) ≡ true → 3 ≤ length text
 mark-long text a b c e all = omega (arith, stood text 2 191 c e (both b c (both a (b && c) all .1) .1))
 
-pub begun-of : (mark at window out : ℕ) (r : Taken) → Started mark at r → mark ≤ window → mark ≤ 3 → at ≤ out → Begun window out r
-begun-of mark at window out r s p q h = record { next = omega (arith, s .next); passed = omega (arith, s .passed); sane = s .sane; said = omega (arith, s .said) }
+pub begun-of : (skipped at window out : ℕ) (r : Taken) → Started skipped at r → skipped ≤ window → skipped ≤ 3 → at ≤ out → Begun window out r
+begun-of skipped at window out r s p q h = record { next = omega (arith, s .next); passed = omega (arith, s .passed); sane = s .sane; said = omega (arith, s .said) }
 
 -- of the loop over records: each turn but the last passes bytes
 unfoldable pub rest : (room : ℕ) (go : Bool) → ℕ
@@ -65,3 +65,7 @@ part-size window at k h = simp (length-take, length-drop) (omega arith)
 
 pub front-size : (window : List ℕ) (held : ℕ) → held ≤ length window → length (take (held - 0) window) ≡ held
 front-size window held h = simp length-take (omega arith)
+
+pub mark-is : (text : List ℕ) (a b c : Bool) → a ≡ stands text 0 239 → b ≡ stands text 1 187 → c ≡ stands text 2 191 → a && (b && c) ≡ mark text
+unfolding mark
+mark-is text a b c p q r = rw (p, q, r) refl

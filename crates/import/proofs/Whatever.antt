@@ -3,35 +3,30 @@
 use mathlib.Core.Path.{_≡_, refl, sym, ap, _∙_}
 use mathlib.Core.Bool.{Bool, true, false, not, cond, _&&_, _||_}
 use mathlib.Core.List.{List, _++_}
+use mathlib.Core.Logic.{inr}
 use Prim.Native.Nat.{ℕ, _+_, _-_, _<_}
 use native.Mathlib.Omega.{arith}
 use borrow.Author.Tests.{eqb-true, eq-eqb, lt-ltb, le-ltb, ltb-true}
 use lib.Dec.{eqb, ltb}
 use lib.ListN.{length, getD}
-use Rattle.record.specs.Grammar.{Reads}
-use Rattle.record.specs.Scan.{upTo, done, bad, scanned}
-use Rattle.record.proofs.Theorems.Sound.{sound}
-use Rattle.record.proofs.Theorems.Complete.{complete}
-use Rattle.record.proofs.Theorems.Decided.{by-lf, reads-before, bad-decided}
+use Rattle.record.specs.Scan.{done, bad, scanned}
+use Rattle.record.proofs.Theorems.Decided.{bad-decided, window-done}
 use Rattle.import.specs.Settled.{stands, settled}
 
 both : (a b : Bool) → a && b ≡ true → (a ≡ true) × (b ≡ true)
 both true b e = (refl, e)
 both false b e = absurd (let z : _≡_ {A = ℕ} 0 1 = cc in omega arith)
 
--- A RECORD THAT IS SETTLED IS READ THE SAME, with the same fields and the same next place.
+-- a record that is settled is read the same, with the same fields and the same next place
 pub record-whatever : (window others : List ℕ) (next : ℕ) → scanned window .ending ≡ done next → settled window false 0 next ≡ true
     → scanned (window ++ others) ≡ scanned window
 unfolding settled
 record-whatever window others next e is =
     let some = both (ltb 0 next) (stands window (next - 1) 10) is in
     let lf = both (ltb (next - 1) (length window)) (eqb (getD window (next - 1) 0) 10) (some .1) in
-    let whole : scanned window ≡ upTo (scanned window .fields) (done next) = ap (upTo (scanned window .fields)) e in
-    let reads = sound window (scanned window .fields) next whole in
-    let line = by-lf window (scanned window .fields) next reads (eqb-true (getD window (next - 1) 0) 10 (lf .1)) in
-    complete (window ++ others) (scanned window .fields) next (reads-before window (scanned window .fields) next others line) ∙ sym whole
+    window-done window next others e (inr (eqb-true (getD window (next - 1) 0) 10 (lf .1)))
 
--- A BYTE THAT IS SETTLED TO BE AT FAULT is so whatever follows.
+-- a byte that is settled to be at fault is so whatever follows
 pub fault-whatever : (window others : List ℕ) (at : ℕ) → scanned window .ending ≡ bad at → settled window false 9 at ≡ true
     → scanned (window ++ others) ≡ scanned window
 unfolding settled

@@ -15,3 +15,7 @@ settled text last number at =
     last
     || cond (eqb number 0) (ltb 0 at && stands text (at - 1) 10)
     (eqb number 9 && (not (stands text at 13) || ltb (at + 1) (length text)))
+
+-- a byte-order mark: ef, bb, bf
+unfoldable pub mark : (text : List ℕ) → Bool
+mark text = stands text 0 239 && (stands text 1 187 && stands text 2 191)

@@ -7,7 +7,7 @@ ghost use mathlib.Core.Bool.{cond, true};
 ghost use lib.Dec.{eqb};
 ghost use lib.ListN.{length};
 ghost use Rattle.import.specs.Spots.{lineOn, byteOn, Behind};
-ghost use Rattle.import.specs.Settled.{stands, settled};
+ghost use Rattle.import.specs.Settled.{stands, settled, mark};
 ghost use Rattle.import.specs.Sheets.{Counted};
 
 // Behind one more byte.
@@ -75,7 +75,7 @@ pub fn settled(text: &[u8], last: bool, number: u8, at: usize) -> bool
 
 // Whether the input begins with a byte-order mark.
 pub fn marked(window: &[u8]) -> bool
-    ensures { λ r. ⌜ (r ≡ true → 3 ≤ length (now (window .entry))) ⌝ }
+    ensures { λ r. ⌜ (r ≡ mark (now (window .entry))) × (r ≡ true → 3 ≤ length (now (window .entry))) ⌝ }
 {
     stands(window, 0, 239) & (stands(window, 1, 187) & stands(window, 2, 191))
 }

@@ -14,6 +14,6 @@ begin-spec =
     (λ c κs. search needs)
     (λ c κs. search needs)
     (λ c. search needs)
-    (λ c. begun-of 3 _ _ _ _ (c .started .ensures) (c .before .before .before .before .before .before .before .marked .ensures (c .before .before .before .before .before .before .if1 .taken)) (omega arith) (omega (arith, c .before .before .before .put-text .ensures .behind, c .before .before .before .before .before .before .before .before .before .before .pre)))
+    (λ c. begun-of 3 _ _ _ _ (c .started .ensures) (c .before .before .before .before .before .before .before .marked .ensures .1 (c .before .before .before .before .before .before .if1 .taken)) (omega arith) (omega (arith, c .before .before .before .put-text .ensures .behind, c .before .before .before .before .before .before .before .before .before .before .pre)))
     (λ c κs. search needs)
     (λ c. search needs))

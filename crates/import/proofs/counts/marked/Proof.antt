@@ -1,6 +1,6 @@
--- `marked` meets its promise: the third byte of a mark stands in the text.
+-- `marked` meets its promise: three bytes in their places, of which the third stands in the text.
 use borrow.Author.Needs.{needs}
-use Rattle.import.proofs.Counting.{mark-long}
+use Rattle.import.proofs.Counting.{mark-long, mark-is}
 use Rattle.import.proofs.counts.marked.Statement.{statement}
 use Rattle.import.proofs.counts.marked.Tie as tie
 
@@ -11,4 +11,4 @@ marked-spec =
     (λ c κs. search needs)
     (λ c κs. search needs)
     (λ c κs. search needs)
-    (λ c. search (mark-long, needs)))
+    (λ c. search (mark-long, mark-is, needs)))

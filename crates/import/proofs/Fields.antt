@@ -10,7 +10,7 @@ use lib.Dec.{ltb}
 use lib.ListN.{length, take, drop, length-append, length-drop}
 use lib.Seq.{take-append-seam}
 use Rattle.table.specs.Tray.{within}
-use Rattle.record.specs.declared.Told.{Told}
+use Rattle.record.specs.declared.texts.Told.{Told}
 use Rattle.record.specs.Scan.{Ending, done, bad, unclosed, Reading, upTo, scanned}
 use Rattle.record.specs.Steps.{numberOf, placeOf}
 use Rattle.record.specs.Undone.{undone, part}

@@ -130,7 +130,7 @@ pub fn take(
     requires { ⌜ Fit sheet (length (now text)) × (said .at ≤ length (now out)) × (262145 ≤ length (now out)) ⌝ }
     ensures { λ r. ⌜ Took sheet (length (now (text .entry))) (length (now (out .entry))) r ⌝ }
 {
-    let seen = record::judge(text);
+    let seen = record::texts::judge(text);
     let at = seen.value as usize;
     if !super::counts::settled(text, last, seen.number, at) {
         return Taken {

@@ -10,8 +10,8 @@ use Rattle.pairs.specs.Vectors.{seen2}
 use Rattle.record.specs.Unquoted.{Unquoted}
 use Rattle.record.proofs.read as read·fn
 use Rattle.record.proofs.read.Reads as read·reads
-use Rattle.record.proofs.judge as judge·fn
-use Rattle.record.proofs.judge.Reads as judge·reads
+use Rattle.record.proofs.texts.judge as judge·fn
+use Rattle.record.proofs.texts.judge.Reads as judge·reads
 use Rattle.record.proofs.texts as texts
 
 -- In what follows a are the arguments, r and r′ are results, and e and e′ the arguments as they are at the return.

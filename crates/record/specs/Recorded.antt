@@ -18,7 +18,7 @@ use Rattle.pairs.specs.Vectors.{seen2}
 use Rattle.record.specs.Scan.{scanned}
 use Rattle.record.specs.Places.{firsts, lasts}
 use Rattle.record.specs.Steps.{numberOf, placeOf}
-use Rattle.record.specs.declared.Told.{Told}
+use Rattle.record.specs.declared.texts.Told.{Told}
 
 -- the most bytes that a text may have
 abbrev pub longest : ℕ

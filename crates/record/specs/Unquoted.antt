@@ -6,7 +6,7 @@ use mathlib.Core.List.{List, [], _∷_, _++_}
 use lib.Dec.{ltb}
 use lib.ListN.{length, drop}
 use Rattle.table.specs.Tray.{within}
-use Rattle.record.specs.declared.Told.{Told}
+use Rattle.record.specs.declared.texts.Told.{Told}
 use Rattle.record.specs.Undone.{undone, part}
 use Rattle.record.specs.Recorded.{longest, told, firstOf}
 

@@ -1,5 +1,5 @@
 // Records of comma-separated text (RFC 4180, section 2), read from a lent text: where each field starts and ends goes on two vectors.
-pub mod texts; // texts.rt: a field's text, with doubled quotes undone
+pub mod texts; // texts.rt: the calls on a text alone
 
 use pairs::vectors::Both;
 use vector::Vector;
@@ -13,7 +13,7 @@ ghost use Rattle.vector.specs.Seen.{state};
 ghost use Rattle.pairs.specs.Vectors.{says};
 ghost use Rattle.record.specs.Places.{firsts, lasts};
 ghost use Rattle.record.specs.Steps.{run, any, isQuote, bodyRun, fieldAt, stopOf, numberOf, comesTo, tally, Judged};
-ghost use Rattle.record.specs.Recorded.{longest, told, judges, early, Records};
+ghost use Rattle.record.specs.Recorded.{longest, early, Records};
 
 // The field at a place: where its bytes start and end, and the position behind it.
 enum Found {
@@ -38,12 +38,6 @@ struct Verdict {
     number: u8,
     count: usize,
     at: usize,
-}
-
-// An answer on a text alone.
-pub struct Told {
-    pub number: u8,
-    pub value: u32,
 }
 
 // Whether a byte may not stand in a field that is not quoted.
@@ -240,25 +234,6 @@ fn comes_to(number: u8, count: usize, at: usize) -> Verdict
     ensures { λ r. ⌜ r ≡ comesTo number count at ⌝ }
 {
     Verdict { number, count, at }
-}
-
-// What a text comes to: where the next record starts, or where this one goes wrong.
-pub fn judge(text: &[u8]) -> Told
-    ensures { λ r. ⌜ r ≡ judges (now (text .entry)) ⌝ }
-{
-    if 65535 < text.len() {
-        return tells(11, 0);
-    }
-    let mut begins = [0u32; 16];
-    let mut ends = [0u32; 16];
-    let v = pass(text, &mut begins, &mut ends);
-    tells(v.number, v.at as u32)
-}
-
-fn tells(number: u8, value: u32) -> Told
-    ensures { λ r. ⌜ r ≡ told number value ⌝ }
-{
-    Told { number, value }
 }
 
 // What is refused whatever the text says: 1, 2, 5 and 11, else 0.

@@ -1,14 +1,40 @@
-// A field's own bytes, with doubled quotes undone, written into a lent text.
-use super::Told;
+// The calls on a text alone: what it comes to, and a field's own bytes, with doubled quotes undone.
+use super::pass;
 use super::stands;
-use super::tells;
 ghost use mathlib.Core.Path.{_≡_};
 ghost use Prim.Native.Nat.{_<_, _≤_};
 ghost use lib.ListN.{length};
 ghost use lib.Seq.{sets};
 ghost use Rattle.record.specs.Undone.{undone};
+ghost use Rattle.record.specs.Recorded.{told, judges};
 ghost use Rattle.record.specs.Steps.{past};
 ghost use Rattle.record.specs.Unquoted.{Unquotes};
+
+// An answer on a text alone.
+pub struct Told {
+    pub number: u8,
+    pub value: u32,
+}
+
+// What a text comes to: where the next record starts, or where this one goes wrong.
+pub fn judge(text: &[u8]) -> Told
+    ensures { λ r. ⌜ r ≡ judges (now (text .entry)) ⌝ }
+{
+    let size = text.len();
+    if 65535 < size {
+        return tells(11, 0);
+    }
+    let mut begins = [0u32; 16];
+    let mut ends = [0u32; 16];
+    let v = pass(text, &mut begins, &mut ends);
+    tells(v.number, v.at as u32)
+}
+
+fn tells(number: u8, value: u32) -> Told
+    ensures { λ r. ⌜ r ≡ told number value ⌝ }
+{
+    Told { number, value }
+}
 
 // The position behind a byte of the field: two quotes are one byte.
 fn behind_byte(part: &[u8], at: usize) -> usize

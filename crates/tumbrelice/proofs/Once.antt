@@ -10,7 +10,7 @@ use Rattle.slots.specs.Layout.{Kind}
 use Rattle.slots.proofs.Twice.{Twice}
 use Rattle.table.specs.Tray.{Tray, Cursor}
 use Rattle.table.specs.Calls.{Call, Call2, Look}
-use Rattle.record.specs.declared.Told.{Told}
+use Rattle.record.specs.declared.texts.Told.{Told}
 use Rattle.record.specs.Unquoted.{Unquoted}
 use Rattle.tumbrelice.specs.Heard.{valueIn, freeIn, movesIn, numberIn, Hears, HearsAt, Hears2, ringOf, vectorOf, cursorOf}
 use Rattle.tumbrelice.specs.HeardText.{HearsRecord, heardTold}

@@ -7,7 +7,7 @@ use Rattle.table.specs.Does.{Outcome2}
 use Rattle.vector.specs.declared.Vector.{Vector}
 use Rattle.vector.specs.Seen as vectors
 use Rattle.pairs.specs.declared.vectors.Both.{Both}
-use Rattle.record.specs.declared.Told.{Told}
+use Rattle.record.specs.declared.texts.Told.{Told}
 use Rattle.record.specs.Recorded.{judges, Records}
 use Rattle.record.specs.Unquoted.{Unquoted, unquoted, Unquotes}
 use Rattle.record.proofs.Theorems.Small.{few-numbers, no-moves, judged-few, unquoted-few}

@@ -3,7 +3,7 @@ use Prim.Native.Nat.{ℕ}
 use mathlib.Core.Path.{_≡_}
 use mathlib.Core.List.{List}
 use Rattle.table.specs.Tray.{Tray}
-use Rattle.record.specs.declared.Told.{Told}
+use Rattle.record.specs.declared.texts.Told.{Told}
 use Rattle.record.specs.Recorded.{told, judges, records}
 use Rattle.record.specs.Unquoted.{unquoted, unquotes}
 use Rattle.tumbrelice.specs.Heard.{valueIn, freeIn, movesIn, numberIn, heard2}

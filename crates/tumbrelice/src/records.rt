@@ -27,7 +27,7 @@ pub extern "C" fn tum_record_read(
 pub extern "C" fn tum_record_judge(text: &[u8]) -> u64
     ensures { λ r. ⌜ HearsTold (now (text .entry)) r ⌝ }
 {
-    let a = record::judge(text);
+    let a = record::texts::judge(text);
     word(a.number, a.value, 0)
 }
 

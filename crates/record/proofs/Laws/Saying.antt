@@ -21,7 +21,7 @@ use Rattle.vector.specs.Seen.{tray, state}
 use Rattle.pairs.specs.declared.vectors.Both.{Both}
 use Rattle.pairs.specs.Vectors.{seen2, says}
 use Rattle.record.specs.declared.Verdict.{Verdict}
-use Rattle.record.specs.declared.Told.{Told}
+use Rattle.record.specs.declared.texts.Told.{Told}
 use Rattle.record.specs.Scan.{scanned}
 use Rattle.record.specs.Places.{firsts, lasts}
 use Rattle.record.specs.Steps.{numberOf, placeOf, tally, Judged}

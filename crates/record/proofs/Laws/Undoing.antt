@@ -13,7 +13,7 @@ use Rattle.record.specs.Grammar.{quote}
 use Rattle.record.specs.Scan.{starts}
 use Rattle.record.specs.Steps.{past}
 use Rattle.record.specs.Undone.{undone, part}
-use Rattle.record.specs.declared.Told.{Told}
+use Rattle.record.specs.declared.texts.Told.{Told}
 use Rattle.record.specs.Recorded.{longest, told}
 use Rattle.record.specs.Unquoted.{unquoted, unquotes, Unquotes}
 use Rattle.record.proofs.Laws.Runs.{left, none-left, inside}

@@ -32,8 +32,8 @@ use Rattle.record.proofs.Laws.Saying.{not-held, length-firsts, length-l
 use Rattle.record.proofs.Theorems.Complete.{complete}
 use Rattle.record.proofs.Theorems.Refused.{ending-done, ending-bad, ending-unclosed}
 use Rattle.record.proofs.Theorems.Where.{bad-at-iff, unclosed-at-iff}
-use Rattle.record.proofs.judge as judge·fn
-use Rattle.record.proofs.judge.Reads as judge·reads
+use Rattle.record.proofs.texts.judge as judge·fn
+use Rattle.record.proofs.texts.judge.Reads as judge·reads
 use Rattle.record.proofs.read as read·fn
 use Rattle.record.proofs.read.Reads as read·reads
 

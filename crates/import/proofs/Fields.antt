@@ -80,3 +80,11 @@ next-some text r e fit some zero-told = go (scanned text .ending) refl
         omega (arith, taken next (ended (sound text (scanned text .fields) next (ap (upTo (scanned text .fields)) q))))
     go (bad at) q = absurd (let n : r .number ≡ 9 = ap (λ (t : Told). t .number) is ∙ ap numberOf q in omega arith)
     go (unclosed at) q = absurd (let n : r .number ≡ 10 = ap (λ (t : Told). t .number) is ∙ ap numberOf q in omega arith)
+
+-- the same of a number and a place that are the answer
+module _ (text : List ℕ) (number at : ℕ) (is : told number at ≡ judges text) (fit : length text ≤ 65535) where
+  pub place-inside-text : at ≤ length text
+  place-inside-text = judged-inside text (told number at) is fit
+
+  pub place-some : 0 < length text → number ≡ 0 → 0 < at
+  place-some some none = next-some text (told number at) is fit some none

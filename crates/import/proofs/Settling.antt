@@ -7,7 +7,10 @@ use native.Mathlib.Omega.{arith}
 use borrow.Author.Tests.{eq-eqb, ne-eqb, lt-ltb, le-ltb, ltb-true}
 use lib.Dec.{eqb, ltb}
 use lib.ListN.{length, getD}
-use Rattle.import.specs.Settled.{stands, settled}
+use Rattle.record.specs.declared.texts.Told.{Told}
+use Rattle.record.specs.Recorded.{judges}
+use Rattle.import.specs.declared.Taken.{Taken}
+use Rattle.import.specs.Settled.{stands, settled, Settles}
 
 pub stands-in : (text : List ℕ) (at b : ℕ) → at < length text → eqb (getD text at 0) b ≡ stands text at b
 stands-in text at b h = rw (lt-ltb at (length text) h)
@@ -49,3 +52,13 @@ module _ (text : List ℕ) (last : Bool) (number at : ℕ) where
   pub settled-bad : (s : Bool) → last ≡ false → (number ≡ 0 → ⊥) → number ≡ 9 → s ≡ stands text at 13 → s ≡ false → true ≡ settled text last number at
   unfolding settled
   settled-bad s e n n9 is t = rw (e, ne-eqb number 0 n, eq-eqb number 9 n9, ← is, t)
+
+-- `take` goes on only where the answer is settled
+pub unsettled : (text : List ℕ) (last : Bool) (r : Taken) → r .next ≡ 0 → r .refused ≡ false → Settles text last r
+unsettled text last r none well =
+    record { taken = λ some. absurd (omega arith); refused = λ e. absurd (let z : _≡_ {A = ℕ} 0 1 = cc (well, e) in omega arith) }
+
+pub settles : (text : List ℕ) (last d : Bool) (seen : Told) (r : Taken) → seen ≡ judges text → d ≡ settled text last (seen .number) (seen .value) → d ≡ true → Settles text last r
+settles text last d seen r is e yes-settled =
+    let it : settled text last (judges text .number) (judges text .value) ≡ true = sym (ap (λ (a : Told). settled text last (a .number) (a .value)) is) ∙ sym e ∙ yes-settled in
+    record { taken = λ _. it; refused = λ _. it }

@@ -7,6 +7,8 @@ ghost use mathlib.Core.Path.{_≡_};
 ghost use Prim.Native.Nat.{_≤_, _<_};
 ghost use mathlib.Core.Bool.{true};
 ghost use lib.ListN.{length};
+ghost use Rattle.record.specs.Recorded.{told, judges};
+ghost use Rattle.import.specs.Settled.{Settles};
 ghost use Rattle.import.specs.Sheets.{Fit, Took, Says, Went};
 
 // A field's line: its text, with doubled quotes undone, as it is shown.
@@ -115,6 +117,33 @@ pub fn list(
     }
 }
 
+// The record at the front of a text, by an answer on it that is settled: listed, or refused.
+pub fn take_settled(
+    text: &[u8],
+    number: u8,
+    at: usize,
+    slots: &mut [u32],
+    theirs: &mut [u32],
+    field: &mut [u8],
+    sheet: Sheet,
+    out: &mut [u8],
+    said: Said,
+) -> Taken
+    requires { ⌜ (0 < length (now text)) × (length (now text) ≤ 65535) × (length (now slots) ≡ length (now theirs)) × (length (now field) ≤ 65535) ⌝ }
+    requires { ⌜ Fit sheet (length (now text)) × (said .at ≤ length (now out)) × (262145 ≤ length (now out)) × (told number at ≡ judges (now text)) ⌝ }
+    ensures { λ r. ⌜ Took sheet (length (now (text .entry))) (length (now (out .entry))) r ⌝ }
+{
+    if number != 0 {
+        return refuse(text, number, at, sheet, out, said);
+    }
+    let got = record::read(text, vector::state(0), slots, vector::state(0), theirs);
+    if got.number != 0 {
+        return refuse(text, 6, 0, sheet, out, said);
+    }
+    let v = got.first;
+    list(text, at, slots, theirs, v.len, field, sheet, out, said)
+}
+
 // The record at the front of a text, if it is settled.
 pub fn take(
     text: &[u8],
@@ -128,27 +157,29 @@ pub fn take(
 ) -> Taken
     requires { ⌜ (0 < length (now text)) × (length (now text) ≤ 65535) × (length (now slots) ≡ length (now theirs)) × (length (now field) ≤ 65535) ⌝ }
     requires { ⌜ Fit sheet (length (now text)) × (said .at ≤ length (now out)) × (262145 ≤ length (now out)) ⌝ }
-    ensures { λ r. ⌜ Took sheet (length (now (text .entry))) (length (now (out .entry))) r ⌝ }
+    ensures { λ r. ⌜ Took sheet (length (now (text .entry))) (length (now (out .entry))) r × Settles (now (text .entry)) last r ⌝ }
 {
     let seen = record::texts::judge(text);
     let at = seen.value as usize;
-    if !super::counts::settled(text, last, seen.number, at) {
-        return Taken {
-            next: 0,
-            refused: false,
+    if super::counts::settled(text, last, seen.number, at) {
+        return take_settled(
+            text,
+            seen.number,
+            at,
+            slots,
+            theirs,
+            field,
             sheet,
+            out,
             said,
-        };
+        );
     }
-    if seen.number != 0 {
-        return refuse(text, seen.number, at, sheet, out, said);
+    Taken {
+        next: 0,
+        refused: false,
+        sheet,
+        said,
     }
-    let got = record::read(text, vector::state(0), slots, vector::state(0), theirs);
-    if got.number != 0 {
-        return refuse(text, 6, 0, sheet, out, said);
-    }
-    let v = got.first;
-    list(text, at, slots, theirs, v.len, field, sheet, out, said)
 }
 
 // Whether there may be another record behind one.

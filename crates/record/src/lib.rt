@@ -4,7 +4,6 @@ pub mod texts; // texts.rt: the calls on a text alone
 use pairs::vectors::Both;
 use vector::Vector;
 ghost use mathlib.Core.Path.{_≡_};
-ghost use mathlib.Core.Bool.{false};
 ghost use Prim.Native.Nat.{_+_, _≤_, _<_};
 ghost use lib.ListN.{length, take, drop, set};
 ghost use lib.Seq.{sets};

@@ -46,7 +46,7 @@ take-all-spec =
     let l = c .before .before .before .before .before .before .before .before .before .before .before .before .before .before .before .before .before .before .before .before .loop in
     let k = c .before .before .before .before .before .before .before .before .before .before .before .before .before .before .before .before .before .least in
     let size = part-size (a .window .now) (l .at) (k .result) (omega (arith, k .ensures)) in
-    omega (arith, size, k .ensures, p .1 .0 .room, c .before .before .before .before .before .before .before .before .before .take .ensures .within))
+    omega (arith, size, k .ensures, p .1 .0 .room, c .before .before .before .before .before .before .before .before .before .take .ensures .0 .within))
     (λ c κs. search needs)
     (λ c. search (fewer-left, needs))
     (λ c.
@@ -57,14 +57,14 @@ take-all-spec =
     let size = part-size (a .window .now) (l .at) (k .result) (omega (arith, k .ensures)) in
     let t = c .before .before .before .before .before .before .before .before .before .before .take in (
       omega (arith, l .inv .0),
-      omega (arith, size, k .ensures, t .ensures .within),
+      omega (arith, size, k .ensures, t .ensures .0 .within),
       omega (arith, t .kept .1 .1 .0, l .inv .2),
       omega (arith, t .kept .1 .1 .1 .0, l .inv .3),
       omega (arith, t .kept .1 .1 .1 .1 .0, l .inv .4),
       omega (arith, t .kept .1 .1 .1 .1 .1 .1 .0, l .inv .5),
-      omega (arith, t .ensures .passed, l .inv .6),
-      t .ensures .sane,
-      omega (arith, t .ensures .said, t .kept .1 .1 .1 .1 .1 .1 .0),
+      omega (arith, t .ensures .0 .passed, l .inv .6),
+      t .ensures .0 .sane,
+      omega (arith, t .ensures .0 .said, t .kept .1 .1 .1 .1 .1 .1 .0),
     ))
     (λ c. search needs)
     (λ c. search needs)

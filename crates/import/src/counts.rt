@@ -11,7 +11,7 @@ ghost use Rattle.import.specs.Settled.{stands, settled, mark};
 ghost use Rattle.import.specs.Sheets.{Counted};
 
 // Behind one more byte.
-pub fn behind(s: Spot, b: u8) -> Spot
+pub(crate) fn behind(s: Spot, b: u8) -> Spot
     requires { ⌜ (s .line < 18446744073709551615) × (s .byte < 18446744073709551615) ⌝ }
     ensures { λ r. ⌜ (r .line ≡ lineOn (s .line) b) × (r .byte ≡ byteOn (s .byte) b) ⌝ }
 {
@@ -28,7 +28,7 @@ pub fn behind(s: Spot, b: u8) -> Spot
 }
 
 // Behind a part.
-pub fn spot_behind(part: &[u8], first: Spot) -> Spot
+pub(crate) fn spot_behind(part: &[u8], first: Spot) -> Spot
     requires { ⌜ (first .line + length (now part) < 18446744073709551616) × (first .byte + length (now part) < 18446744073709551616) ⌝ }
     ensures { λ r. ⌜ Behind first (now (part .entry)) r ⌝ }
 {
@@ -42,7 +42,7 @@ pub fn spot_behind(part: &[u8], first: Spot) -> Spot
 }
 
 // Whether a byte stands at a position.
-pub fn stands(text: &[u8], at: usize, b: u8) -> bool
+pub(crate) fn stands(text: &[u8], at: usize, b: u8) -> bool
     ensures { λ r. ⌜ r ≡ stands (now (text .entry)) at b ⌝ }
 {
     if at < text.len() {
@@ -52,7 +52,7 @@ pub fn stands(text: &[u8], at: usize, b: u8) -> bool
 }
 
 // Whether an answer on a text is the answer whatever comes after the text.
-pub fn settled(text: &[u8], last: bool, number: u8, at: usize) -> bool
+pub(crate) fn settled(text: &[u8], last: bool, number: u8, at: usize) -> bool
     ensures { λ r. ⌜ r ≡ settled (now (text .entry)) last number at ⌝ }
 {
     if last {
@@ -74,14 +74,14 @@ pub fn settled(text: &[u8], last: bool, number: u8, at: usize) -> bool
 }
 
 // Whether the input begins with a byte-order mark.
-pub fn marked(window: &[u8]) -> bool
+pub(crate) fn marked(window: &[u8]) -> bool
     ensures { λ r. ⌜ (r ≡ mark (now (window .entry))) × (r ≡ true → 3 ≤ length (now (window .entry))) ⌝ }
 {
     stands(window, 0, 239) & (stands(window, 1, 187) & stands(window, 2, 191))
 }
 
 // How many fields the first record has, once one of k is counted.
-pub fn first_of(s: Sheet, k: u64) -> u64
+pub(crate) fn first_of(s: Sheet, k: u64) -> u64
     ensures { λ r. ⌜ r ≡ cond (eqb (s .records) 0) k (s .first) ⌝ }
 {
     if s.records == 0 {
@@ -91,7 +91,7 @@ pub fn first_of(s: Sheet, k: u64) -> u64
 }
 
 // How many records have another number of fields, once one of k is counted.
-pub fn others_of(others: u64, k: u64, first: u64) -> u64
+pub(crate) fn others_of(others: u64, k: u64, first: u64) -> u64
     requires { ⌜ others < 18446744073709551615 ⌝ }
     ensures { λ r. ⌜ r ≡ cond (eqb k first) others (others + 1) ⌝ }
 {
@@ -102,7 +102,7 @@ pub fn others_of(others: u64, k: u64, first: u64) -> u64
 }
 
 // One record more, of k fields, which takes so many bytes and ends before a spot.
-pub fn counted(s: Sheet, k: u64, next: u64, spot: Spot) -> Sheet
+pub(crate) fn counted(s: Sheet, k: u64, next: u64, spot: Spot) -> Sheet
     requires { ⌜ (s .passed + next < 18446744073709551616) × (s .records < 18446744073709551615) × (s .others < 18446744073709551615) ⌝ }
     ensures { λ r. ⌜ Counted s k next spot r ⌝ }
 {
@@ -119,7 +119,7 @@ pub fn counted(s: Sheet, k: u64, next: u64, spot: Spot) -> Sheet
 }
 
 // The smaller of two numbers.
-pub fn least(a: usize, b: usize) -> usize
+pub(crate) fn least(a: usize, b: usize) -> usize
     ensures { λ r. ⌜ r ≡ min a b ⌝ }
 {
     if a < b { a } else { b }

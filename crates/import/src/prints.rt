@@ -6,7 +6,7 @@ ghost use Rattle.import.specs.Lines.{shown, allShown, fieldLine, numbere
 ghost use Rattle.import.specs.Wrote.{Wrote};
 
 // Bytes as they are.
-pub fn put_text(text: &[u8], out: &mut [u8], at: usize) -> usize
+pub(crate) fn put_text(text: &[u8], out: &mut [u8], at: usize) -> usize
     requires { ⌜ at + length (now text) ≤ length (now out) ⌝ }
     ensures { λ r. ⌜ Wrote (now (out .entry)) at (now (text .entry)) r (now (out .exit)) ⌝ }
 {
@@ -19,7 +19,7 @@ pub fn put_text(text: &[u8], out: &mut [u8], at: usize) -> usize
 }
 
 // A number's digits.
-pub fn put_decimal(n: u64, out: &mut [u8], at: usize) -> usize
+pub(crate) fn put_decimal(n: u64, out: &mut [u8], at: usize) -> usize
     requires { ⌜ at + 20 ≤ length (now out) ⌝ }
     ensures { λ r. ⌜ Wrote (now (out .entry)) at (decimal n) r (now (out .exit)) × (r ≤ at + 20) ⌝ }
 {
@@ -29,7 +29,7 @@ pub fn put_decimal(n: u64, out: &mut [u8], at: usize) -> usize
 }
 
 // A number, and words right behind it.
-pub fn put_numbered(n: u64, words: &[u8], out: &mut [u8], at: usize) -> usize
+pub(crate) fn put_numbered(n: u64, words: &[u8], out: &mut [u8], at: usize) -> usize
     requires { ⌜ at + 20 + length (now words) ≤ length (now out) ⌝ }
     ensures { λ r. ⌜ Wrote (now (out .entry)) at (numbered n (now (words .entry))) r (now (out .exit)) × (r ≤ at + 20 + length (now (words .entry))) ⌝ }
 {
@@ -38,7 +38,7 @@ pub fn put_numbered(n: u64, words: &[u8], out: &mut [u8], at: usize) -> usize
 }
 
 // So many of something.
-pub fn put_several(n: u64, what: &[u8], out: &mut [u8], at: usize) -> usize
+pub(crate) fn put_several(n: u64, what: &[u8], out: &mut [u8], at: usize) -> usize
     requires { ⌜ at + 30 ≤ length (now out) × (length (now what) ≤ 6) ⌝ }
     ensures { λ r. ⌜ Wrote (now (out .entry)) at (several n (now (what .entry))) r (now (out .exit)) × (r ≤ at + 30) ⌝ }
 {
@@ -52,7 +52,7 @@ pub fn put_several(n: u64, what: &[u8], out: &mut [u8], at: usize) -> usize
 }
 
 // A byte as it is shown.
-pub fn put_byte(b: u8, out: &mut [u8], at: usize) -> usize
+pub(crate) fn put_byte(b: u8, out: &mut [u8], at: usize) -> usize
     requires { ⌜ at + 4 ≤ length (now out) ⌝ }
     ensures { λ r. ⌜ Wrote (now (out .entry)) at (shown b) r (now (out .exit)) × (r ≤ at + 4) ⌝ }
 {
@@ -66,7 +66,7 @@ pub fn put_byte(b: u8, out: &mut [u8], at: usize) -> usize
 }
 
 // Bytes as they are shown.
-pub fn put_shown(part: &[u8], out: &mut [u8], at: usize) -> usize
+pub(crate) fn put_shown(part: &[u8], out: &mut [u8], at: usize) -> usize
     requires { ⌜ at + 4 * length (now part) ≤ length (now out) ⌝ }
     ensures { λ r. ⌜ Wrote (now (out .entry)) at (allShown (now (part .entry))) r (now (out .exit)) × (r ≤ at + 4 * length (now (part .entry))) ⌝ }
 {
@@ -80,7 +80,7 @@ pub fn put_shown(part: &[u8], out: &mut [u8], at: usize) -> usize
 }
 
 // A field's line.
-pub fn put_field(part: &[u8], out: &mut [u8], at: usize) -> usize
+pub(crate) fn put_field(part: &[u8], out: &mut [u8], at: usize) -> usize
     requires { ⌜ at + 4 * length (now part) + 5 ≤ length (now out) ⌝ }
     ensures { λ r. ⌜ Wrote (now (out .entry)) at (fieldLine (now (part .entry))) r (now (out .exit)) × (r ≤ at + 4 * length (now (part .entry)) + 5) ⌝ }
 {
@@ -90,7 +90,7 @@ pub fn put_field(part: &[u8], out: &mut [u8], at: usize) -> usize
 }
 
 // That the first record has another number of fields.
-pub fn put_other(k: u64, first: u64, out: &mut [u8], at: usize) -> usize
+pub(crate) fn put_other(k: u64, first: u64, out: &mut [u8], at: usize) -> usize
     requires { ⌜ at + 35 ≤ length (now out) ⌝ }
     ensures { λ r. ⌜ Wrote (now (out .entry)) at (otherThan k first) r (now (out .exit)) × (r ≤ at + 35) ⌝ }
 {
@@ -102,7 +102,7 @@ pub fn put_other(k: u64, first: u64, out: &mut [u8], at: usize) -> usize
 }
 
 // A record's line.
-pub fn put_record(n: u64, k: u64, first: u64, out: &mut [u8], at: usize) -> usize
+pub(crate) fn put_record(n: u64, k: u64, first: u64, out: &mut [u8], at: usize) -> usize
     requires { ⌜ at + 100 ≤ length (now out) ⌝ }
     ensures { λ r. ⌜ Wrote (now (out .entry)) at (recordLine n k first) r (now (out .exit)) × (r ≤ at + 100) ⌝ }
 {
@@ -113,7 +113,7 @@ pub fn put_record(n: u64, k: u64, first: u64, out: &mut [u8], at: usize) -> usiz
 }
 
 // Why a record is refused.
-pub fn put_why(number: u8, out: &mut [u8], at: usize) -> usize
+pub(crate) fn put_why(number: u8, out: &mut [u8], at: usize) -> usize
     requires { ⌜ at + 30 ≤ length (now out) ⌝ }
     ensures { λ r. ⌜ Wrote (now (out .entry)) at (why number) r (now (out .exit)) × (r ≤ at + 30) ⌝ }
 {
@@ -130,7 +130,7 @@ pub fn put_why(number: u8, out: &mut [u8], at: usize) -> usize
 }
 
 // Where a refusal is.
-pub fn put_place(line: u64, byte: u64, out: &mut [u8], at: usize) -> usize
+pub(crate) fn put_place(line: u64, byte: u64, out: &mut [u8], at: usize) -> usize
     requires { ⌜ at + 50 ≤ length (now out) ⌝ }
     ensures { λ r. ⌜ Wrote (now (out .entry)) at (place line byte) r (now (out .exit)) × (r ≤ at + 50) ⌝ }
 {
@@ -139,7 +139,14 @@ pub fn put_place(line: u64, byte: u64, out: &mut [u8], at: usize) -> usize
 }
 
 // The line of a record that is refused.
-pub fn put_refused(n: u64, line: u64, byte: u64, number: u8, out: &mut [u8], at: usize) -> usize
+pub(crate) fn put_refused(
+    n: u64,
+    line: u64,
+    byte: u64,
+    number: u8,
+    out: &mut [u8],
+    at: usize,
+) -> usize
     requires { ⌜ at + 120 ≤ length (now out) ⌝ }
     ensures { λ r. ⌜ Wrote (now (out .entry)) at (refusedLine n line byte number) r (now (out .exit)) × (r ≤ at + 120) ⌝ }
 {
@@ -150,7 +157,7 @@ pub fn put_refused(n: u64, line: u64, byte: u64, number: u8, out: &mut [u8], at:
 }
 
 // How many fields the records have.
-pub fn put_counts(records: u64, first: u64, others: u64, out: &mut [u8], at: usize) -> usize
+pub(crate) fn put_counts(records: u64, first: u64, others: u64, out: &mut [u8], at: usize) -> usize
     requires { ⌜ at + 66 ≤ length (now out) ⌝ }
     ensures { λ r. ⌜ Wrote (now (out .entry)) at (counts records first others) r (now (out .exit)) × (r ≤ at + 66) ⌝ }
 {
@@ -167,7 +174,7 @@ pub fn put_counts(records: u64, first: u64, others: u64, out: &mut [u8], at: usi
 }
 
 // How it came to its end.
-pub fn put_ending(ending: u8, out: &mut [u8], at: usize) -> usize
+pub(crate) fn put_ending(ending: u8, out: &mut [u8], at: usize) -> usize
     requires { ⌜ at + 23 ≤ length (now out) ⌝ }
     ensures { λ r. ⌜ Wrote (now (out .entry)) at (endWords ending) r (now (out .exit)) × (r ≤ at + 23) ⌝ }
 {
@@ -181,7 +188,7 @@ pub fn put_ending(ending: u8, out: &mut [u8], at: usize) -> usize
 }
 
 // The last line.
-pub fn put_last(
+pub(crate) fn put_last(
     records: u64,
     first: u64,
     others: u64,

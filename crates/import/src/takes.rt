@@ -12,7 +12,7 @@ ghost use Rattle.import.specs.Settled.{Settles};
 ghost use Rattle.import.specs.Sheets.{Fit, Took, Says, Went};
 
 // A field's line: its text, with doubled quotes undone, as it is shown.
-pub fn say_field(
+pub(crate) fn say_field(
     text: &[u8],
     start: u32,
     end: u32,
@@ -32,7 +32,7 @@ pub fn say_field(
 }
 
 // The lines of a record's fields, as long as the output takes them.
-pub fn say_fields(
+pub(crate) fn say_fields(
     text: &[u8],
     slots: &[u32],
     theirs: &[u32],
@@ -56,7 +56,14 @@ pub fn say_fields(
 }
 
 // A refusal, for the byte at a place: its line, and nothing is taken.
-pub fn refuse(text: &[u8], number: u8, at: usize, sheet: Sheet, out: &mut [u8], said: Said) -> Taken
+pub(crate) fn refuse(
+    text: &[u8],
+    number: u8,
+    at: usize,
+    sheet: Sheet,
+    out: &mut [u8],
+    said: Said,
+) -> Taken
     requires { ⌜ (at ≤ length (now text)) × Fit sheet (length (now text)) × (said .at ≤ length (now out)) × (262145 ≤ length (now out)) ⌝ }
     ensures { λ r. ⌜ Took sheet (length (now (text .entry))) (length (now (out .entry))) r ⌝ }
 {
@@ -84,7 +91,7 @@ pub fn refuse(text: &[u8], number: u8, at: usize, sheet: Sheet, out: &mut [u8], 
 }
 
 // A record that is taken: its line and its fields'.
-pub fn list(
+pub(crate) fn list(
     text: &[u8],
     next: usize,
     slots: &[u32],
@@ -118,7 +125,7 @@ pub fn list(
 }
 
 // The record at the front of a text, by an answer on it that is settled: listed, or refused.
-pub fn take_settled(
+pub(crate) fn take_settled(
     text: &[u8],
     number: u8,
     at: usize,
@@ -145,7 +152,7 @@ pub fn take_settled(
 }
 
 // The record at the front of a text, if it is settled.
-pub fn take(
+pub(crate) fn take(
     text: &[u8],
     last: bool,
     slots: &mut [u32],
@@ -183,7 +190,7 @@ pub fn take(
 }
 
 // Whether there may be another record behind one.
-pub fn goes_on(t: Taken) -> bool
+pub(crate) fn goes_on(t: Taken) -> bool
     ensures { λ r. ⌜ (r ≡ true → 0 < t .next) ⌝ }
 {
     let said = t.said;
@@ -191,7 +198,7 @@ pub fn goes_on(t: Taken) -> bool
 }
 
 // The settled records at the front of the window, one after another; whole says that the input ends with it. Next is then where the rest begins.
-pub fn take_all(
+pub(crate) fn take_all(
     window: &[u8],
     whole: bool,
     slots: &mut [u32],

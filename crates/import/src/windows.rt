@@ -10,7 +10,7 @@ ghost use lib.ListN.{length, take, drop};
 ghost use Rattle.import.specs.Window.{Fills};
 
 // Room for so many bytes more: what is collected is written, if need be.
-pub fn room(said: Said, need: usize, out: &[u8]) -> Said
+pub(crate) fn room(said: Said, need: usize, out: &[u8]) -> Said
     requires { ⌜ (said .at ≤ length (now out)) × (need ≤ length (now out)) ⌝ }
     ensures { λ r. ⌜ r .at + need ≤ length (now (out .entry)) ⌝ }
 {
@@ -26,7 +26,7 @@ pub fn room(said: Said, need: usize, out: &[u8]) -> Said
 }
 
 // One read, behind the bytes that the window holds.
-pub fn read_at(window: &mut [u8], at: usize) -> Got
+pub(crate) fn read_at(window: &mut [u8], at: usize) -> Got
     requires { ⌜ at ≤ length (now window) ⌝ }
     ensures { λ r. ⌜ (at + r .count ≤ length (now (window .entry))) × (take at (now (window .exit)) ≡ take at (now (window .entry))) ⌝ }
 {
@@ -39,7 +39,7 @@ pub fn read_at(window: &mut [u8], at: usize) -> Got
 }
 
 // Reads until the window is full, or the input ends or fails. The bytes that it holds stay.
-pub fn fill(window: &mut [u8], held: usize) -> Filled
+pub(crate) fn fill(window: &mut [u8], held: usize) -> Filled
     requires { ⌜ held ≤ length (now window) ⌝ }
     ensures { λ r. ⌜ Fills (now (window .entry)) held r (now (window .exit)) ⌝ }
 {
@@ -60,7 +60,7 @@ pub fn fill(window: &mut [u8], held: usize) -> Filled
 }
 
 // The bytes from a place on are moved to the front of the window.
-pub fn shift(window: &mut [u8], from: usize, held: usize)
+pub(crate) fn shift(window: &mut [u8], from: usize, held: usize)
     requires { ⌜ (from ≤ held) × (held ≤ length (now window)) ⌝ }
     ensures { λ _. ⌜ take (held - from) (now (window .exit)) ≡ take (held - from) (drop from (now (window .entry))) ⌝ }
 {

@@ -64,6 +64,7 @@ fn everything(pen: &mut Pen, calls: u64) {
     damaged::each(pen);
     damaged::long(pen, &[100, 4095, 4096, 4097, 65_535, 65_536, 65_537, 1_000_000]);
     large::every(pen);
+    large::alike(pen);
     let mut random = Random::new(0x0ac1e, MOST_SLOTS);
     while pen.tally.calls() < calls {
         random.case(pen);

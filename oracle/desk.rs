@@ -109,7 +109,7 @@ impl Desk {
         if kind == Vector {
             self.first.head = 0;
         }
-        if ops::has_second(act) && (kind == Vector || act == FromIter) {
+        if ops::has_second(act) && ops::second_kind(act, kind) == Vector {
             self.second.head = 0;
         }
         let q = Asked { act, kind, a, b, first: self.first.state(), second: self.second.state(), front: self.front, back: self.back };
@@ -132,6 +132,7 @@ impl Desk {
             Iter | IntoIter => self.begin(q),
             StepFront | StepBack | PeekFront | PeekBack | FromIter => self.walk(q),
             Store => Answer { value: rules::text_length(q.first.cap) as u32, ..Answer::default() },
+            SameAsVector => Answer { value: lists::ring_and_vector(&self.first.list(Ring), &self.second.list(Vector)), ..Answer::default() },
             _ if q.kind == Ring => self.ring(q),
             _ => self.vector(q),
         }
@@ -153,10 +154,7 @@ impl Desk {
         let other = if ops::has_second(q.act) { self.second.list(Ring) } else { VecDeque::new() };
         let mut lists: [VecDeque<u32>; 2] = [if rules::is_making(q.act) { VecDeque::new() } else { self.first.list(Ring) }, other];
         let [list, other] = &mut lists;
-        let mut value = lists::ring(q.act, q.a as usize, q.b as u32, list, other);
-        if q.act == Same {
-            value &= rules::same_shape(q.first, q.second) as u32;
-        }
+        let value = lists::ring(q.act, q.a as usize, q.b as u32, list, other);
         self.first.lay(Ring, before, rules::head_after(q), list.iter());
         if fills_second(q.act) {
             self.second.lay(Ring, q.second, 0, other.iter());

@@ -47,9 +47,9 @@ pub fn every(pen: &mut Pen, share: &mut Share) {
         pen.say(&format!("One {name}."));
         alone(pen, kind, share);
         pen.say(&format!("Two {name}s."));
-        pairs(pen, kind, share);
+        pairs(pen, kind, &[Append, SplitOff, Clone, Same], share);
         pen.say(&format!("Two {name}s that agree, or nearly."));
-        sameness(pen, kind, share);
+        sameness(pen, op(kind, Same), share);
         pen.say(&format!("A cursor over a {name}."));
         cursors(pen, kind, share);
         pen.say(&format!("from_iter over a {name}."));
@@ -57,6 +57,10 @@ pub fn every(pen: &mut Pen, share: &mut Share) {
         pen.say(&format!("The stored form of a {name}."));
         stored(pen, kind, share);
     }
+    pen.say("A ring and a vector.");
+    pairs(pen, Ring, &[SameAsVector], share);
+    pen.say("A ring and a vector that agree, or nearly.");
+    sameness(pen, op(Ring, SameAsVector), share);
     pen.say("Parts of a vector.");
     parts(pen, share);
     pen.say("extend_from_slice.");
@@ -128,10 +132,10 @@ fn parts(pen: &mut Pen, share: &mut Share) {
     }
 }
 
-fn pairs(pen: &mut Pen, kind: Kind, share: &mut Share) {
+fn pairs(pen: &mut Pen, kind: Kind, acts: &[Act], share: &mut Share) {
     for s in states(4) {
         for t in states(3) {
-            for act in [Append, SplitOff, Clone, Same] {
+            for &act in acts {
                 for a in if act == SplitOff { positions(s).collect() } else { vec![UNUSED] } {
                     if share.takes() {
                         set_first(pen, s);
@@ -144,8 +148,9 @@ fn pairs(pen: &mut Pen, kind: Kind, share: &mut Share) {
     }
 }
 
-// Sameness of containers that agree: slot by slot or entry by entry, and then with one slot of the second changed.
-fn sameness(pen: &mut Pen, kind: Kind, share: &mut Share) {
+// Sameness of containers that agree, slot by slot or, whatever their heads and capacities, entry by entry; and then with one slot of the second changed.
+fn sameness(pen: &mut Pen, op: &Op, share: &mut Share) {
+    let (kind, other) = (op.kind, ops::second_kind(op.act, op.kind));
     for s in states(4) {
         for t in states(4).into_iter().filter(|t| t.len == s.len) {
             for by_entry in [false, true] {
@@ -153,9 +158,9 @@ fn sameness(pen: &mut Pen, kind: Kind, share: &mut Share) {
                     if share.takes() {
                         set_first(pen, s);
                         let mut like = slots(t, FIRST);
-                        if by_entry && rules::valid(kind, s) && rules::valid(kind, t) {
+                        if by_entry && rules::valid(kind, s) && rules::valid(other, t) {
                             for j in 0..t.len {
-                                like[rules::slot(kind, t, j)] = FIRST + rules::slot(kind, s, j) as u32;
+                                like[rules::slot(other, t, j)] = FIRST + rules::slot(kind, s, j) as u32;
                             }
                         }
                         if let Some(slot) = like.get_mut(changed as usize) {
@@ -163,7 +168,7 @@ fn sameness(pen: &mut Pen, kind: Kind, share: &mut Share) {
                         }
                         pen.set_second(t.head, t.len, &like);
                         let group = [by_entry, changed == t.cap, s.cap == t.cap, s.head == t.head].iter().fold(1, |sum, &bit| 2 * sum + bit as u8);
-                        share.call_of(group, pen, op(kind, Same).code, UNUSED, UNUSED);
+                        share.call_of(group, pen, op.code, UNUSED, UNUSED);
                     }
                 }
             }

@@ -40,7 +40,7 @@ pub fn run(dir: &str) -> Result<(), String> {
 fn list(pen: &mut Pen) {
     pen.say("Cases of the program replay, written by oracle/ (oracle fixed). A line with a # can't be taken, and says what comes after it.");
     pen.say("Nothing was placed yet: every container is empty.");
-    for code in [0x12, 0x18, 0x22, 0x27, 0x40, 0x53, 0x60, 0x62, 0x39] {
+    for code in [0x12, 0x18, 0x22, 0x27, 0x40, 0x43, 0x44, 0x53, 0x60, 0x62, 0x39] {
         pen.line(code, 0, 0);
     }
     pen.say("Paper 01: cases a to m, and the calls of its listing.");
@@ -62,6 +62,8 @@ fn list(pen: &mut Pen) {
     damaged::long(pen, &[100, 4095, 4096, 4097, 70_000]);
     pen.say("Capacities 16, 17, 256, 257, 4096, 4097 and 4200; only slots near an end or the middle are placed.");
     large::few(pen);
+    pen.say("Containers that hold one list at other heads and on other capacities, or one entry otherwise.");
+    large::few_alike(pen);
     pen.say("The last line has no LF and counts.");
     pen.raw(b"1600000000000000000000000000000001", false);
 }

@@ -1,8 +1,8 @@
 // Cases at the capacities where something changes: a byte's end, a power of two, the most that is permitted and above it.
-use crate::ops::{self, Act::*, Op, OPS};
+use crate::ops::{self, Act::*, Kind, Op, OPS};
 use crate::pen::Pen;
 use crate::rng::Rng;
-use crate::rules;
+use crate::rules::{self, State};
 
 // Every call on each of these, from heads and lengths at the bounds.
 pub fn every(pen: &mut Pen) {
@@ -38,6 +38,58 @@ fn one(pen: &mut Pen, rng: &mut Rng, op: &Op, slots: &[u32]) {
     let (front, back) = (rng.pick(&at), rng.pick(&at));
     pen.set_cursor(front.min(back), front.max(back).min(len + rng.below(9) / 8));
     pen.line(op.code, a, b);
+}
+
+// Two that hold one list, of every length up to 70 and about 256 and 4,096; then with one entry changed, up to 70 each in turn.
+pub fn alike(pen: &mut Pen) {
+    let mut rng = Rng::new(0x5a3e);
+    for op in OPS.iter().filter(|op| matches!(op.act, Same | SameAsVector)) {
+        for len in (0..=70u64).chain([255, 256, 257, 4095, 4096]) {
+            let changed: Vec<u64> = if len <= 70 { (0..len).collect() } else { vec![0, 1, len / 2, len - 17, len - 16, len - 2, len - 1] };
+            for _ in 0..if len < 4095 { 6 } else { 2 } {
+                turned(pen, &mut rng, op, len, None);
+            }
+            for j in changed {
+                turned(pen, &mut rng, op, len, Some(j));
+            }
+        }
+    }
+}
+
+// The few of them that the fixed list has.
+pub fn few_alike(pen: &mut Pen) {
+    let mut rng = Rng::new(0xa11c);
+    for op in OPS.iter().filter(|op| matches!(op.act, Same | SameAsVector)) {
+        for len in [15, 16, 17, 33] {
+            for changed in [None, None, Some(0), Some(len - 1)] {
+                turned(pen, &mut rng, op, len, changed);
+            }
+        }
+    }
+}
+
+// One list on two runs of slots, each of a capacity and from a head of its own; `changed` is an entry that the second has otherwise.
+fn turned(pen: &mut Pen, rng: &mut Rng, op: &Op, len: u64, changed: Option<u64>) {
+    let mut list: Vec<u32> = (0..len).map(|_| rng.next() as u32).collect();
+    let (head, slots) = laid(rng, op.kind, &list);
+    pen.set_first(head, len, &slots);
+    if let Some(j) = changed {
+        list[j as usize] ^= 1 << rng.below(32);
+    }
+    let (head, slots) = laid(rng, ops::second_kind(op.act, op.kind), &list);
+    pen.set_second(head, len, &slots);
+    pen.line(op.code, 0, 0);
+}
+
+fn laid(rng: &mut Rng, kind: Kind, list: &[u32]) -> (u64, Vec<u32>) {
+    let len = list.len() as u64;
+    let cap = (len + rng.pick(&[0, 0, 1, 5, 40])).clamp(1, 4096);
+    let head = rng.below(cap);
+    let mut slots: Vec<u32> = (0..cap).map(|_| rng.next() as u32).collect();
+    for (j, x) in list.iter().enumerate() {
+        slots[rules::slot(kind, State { cap, head, len }, j as u64)] = *x;
+    }
+    (head, slots)
 }
 
 type Call = (u8, u64, u64);

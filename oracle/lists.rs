@@ -62,6 +62,11 @@ pub fn vector(act: Act, a: usize, x: u32, list: &mut Vec<u32>, other: &mut Vec<u
     0
 }
 
+// A ring's sameness with a vector.
+pub fn ring_and_vector(list: &VecDeque<u32>, other: &Vec<u32>) -> u32 {
+    (list == other) as u32
+}
+
 // The part that a vector lends. A writable one takes x at position a, where it has that position; what stood in it before is answered.
 pub fn part(act: Act, a: usize, b: usize, x: u32, list: &mut Vec<u32>) -> Vec<u32> {
     match act {

@@ -14,7 +14,7 @@ pub enum Act {
     Write, PushBack, PushFront, PopBack, PopFront, Insert, Remove, SwapRemove,
     Truncate, Resize, Clear, Extend,
     Range, AsSlice, AsRef, Deref, AsMutSlice, DerefMut,
-    Append, SplitOff, Clone, Same,
+    Append, SplitOff, Clone, Same, SameAsVector,
     Iter, IntoIter, StepFront, StepBack, PeekFront, PeekBack, FromIter,
     Store,
 }
@@ -34,7 +34,7 @@ const fn op(code: u8, kind: Kind, act: Act, name: &'static str, numbers: &'stati
 use Act::*;
 use Kind::*;
 
-pub const OPS: [Op; 65] = [
+pub const OPS: [Op; 66] = [
     op(0x10, Ring, New, "ring new", &[0, 1]),
     op(0x11, Ring, WithCapacity, "ring with_capacity", &[0, 1, 6]),
     op(0x12, Ring, Len, "ring len", &[0, 1]),
@@ -80,6 +80,7 @@ pub const OPS: [Op; 65] = [
     op(0x41, Ring, SplitOff, "rings split_off", &[0, 1, 2, 3, 5, 6]),
     op(0x42, Ring, Clone, "rings clone", &[0, 1, 2, 5, 6]),
     op(0x43, Ring, Same, "rings same", &[0, 1, 2]),
+    op(0x44, Ring, SameAsVector, "ring same_as_vector", &[0, 1, 2]),
     op(0x50, Vector, Append, "vectors append", &[0, 1, 2, 6]),
     op(0x51, Vector, SplitOff, "vectors split_off", &[0, 1, 2, 3, 5, 6]),
     op(0x52, Vector, Clone, "vectors clone", &[0, 1, 2, 5, 6]),
@@ -119,7 +120,12 @@ pub fn find(code: u8) -> Option<&'static Op> {
 
 // T of these calls is the second container.
 pub fn has_second(act: Act) -> bool {
-    matches!(act, Append | SplitOff | Clone | Same | FromIter)
+    matches!(act, Append | SplitOff | Clone | Same | SameAsVector | FromIter)
+}
+
+// T is of the first's kind, save where it is always a vector.
+pub fn second_kind(act: Act, kind: Kind) -> Kind {
+    if matches!(act, SameAsVector | FromIter) { Vector } else { kind }
 }
 
 pub fn is_part(act: Act) -> bool {

@@ -106,10 +106,16 @@ impl Random {
         }
     }
 
-    // The second becomes what the first is, now and then with one slot changed: else two containers would hardly ever agree.
+    // The second becomes what the first is, half the time turned to another head, and now and then with one slot changed: else two containers would
+    // hardly ever agree.
     fn copy_first(&mut self, pen: &mut Pen) {
-        let Tray { mut slots, head, len } = pen.desk.first.clone();
+        let Tray { mut slots, mut head, len } = pen.desk.first.clone();
         if slots.len() < 300 {
+            if head < slots.len() as u64 && self.rng.one_in(2) {
+                let by = self.rng.below(slots.len() as u64);
+                slots.rotate_right(by as usize);
+                head = (head + by) % slots.len() as u64;
+            }
             if !slots.is_empty() && self.rng.one_in(3) {
                 let k = self.rng.below(slots.len() as u64) as usize;
                 slots[k] ^= 1 << self.rng.below(32);

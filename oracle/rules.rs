@@ -1,5 +1,5 @@
 // Paper 01's rules of layout and refusal, written from the paper: validity, slots, heads, numbers, carrying, moves, stored form. No list is made here.
-use crate::ops::{Act, Act::*, Kind, Kind::*};
+use crate::ops::{self, Act, Act::*, Kind, Kind::*};
 
 const MOST: u64 = 4096;
 
@@ -50,11 +50,7 @@ fn one(q: &Asked) -> bool {
 }
 
 fn two(q: &Asked) -> bool {
-    match q.act {
-        Append | SplitOff | Clone | Same => !valid(q.kind, q.second),
-        FromIter => !valid(Vector, q.second),
-        _ => false,
-    }
+    ops::has_second(q.act) && !valid(ops::second_kind(q.act, q.kind), q.second)
 }
 
 fn three(q: &Asked) -> bool {
@@ -149,11 +145,6 @@ pub fn lay<'a>(kind: Kind, slots: &mut [u32], before: State, after: State, list:
     for (k, x) in occupied(kind, after).zip(list) {
         slots[k] = *x;
     }
-}
-
-// Ring sameness asks for these beside the entries.
-pub fn same_shape(s: State, t: State) -> bool {
-    s == t
 }
 
 pub fn text_length(cap: u64) -> u64 {

@@ -6,7 +6,7 @@ use denote.Ref.{now}
 use denote.Triple.Clauses.{AtExit}
 use borrow.Fn.World.{ArgsD, ResD}
 use Rattle.slots.specs.Layout.{vector}
-use Rattle.table.specs.Calls.{append, splitOff, clone, equal}
+use Rattle.table.specs.Calls.{append, splitOff, clone, same}
 use Rattle.table.specs.World.{World, onTwo, Ours}
 use Rattle.table.proofs.Laws.Named.{Are, ours-on-two}
 use Rattle.vector.specs.Seen.{tray}
@@ -32,5 +32,5 @@ module _ (w : World) (i j : ℕ) (κs : Lfts 2) where
 
   pub equal-ours : (a : ArgsD fn.equal.signature κs) (r : ResD fn.equal.signature κs) (e : AtExit fn.equal.ended κs)
       → Are w i j vector vector (tray (a .0) (now (a .1 .0))) (tray (a .1 .1 .0) (now (a .1 .1 .1 .0))) → fn.equal.Reads.Learnt κs a r e
-      → Ours w (onTwo i j equal (seen2 r (now (a .1 .0)) (now (a .1 .1 .1 .0))))
+      → Ours w (onTwo i j same (seen2 r (now (a .1 .0)) (now (a .1 .1 .1 .0))))
   equal-ours a r e are learnt = ours-on-two w i j _ _ _ _ _ _ refl are (learnt .row)

@@ -1,89 +1,72 @@
--- Ring sameness in paper 01's words, from the generated contract of `pairs::rings::same`: of two valid rings the value is 1 exactly when capacity, head,
--- length and all occupied slots agree, and else 0.
-use Prim.Native.Nat.{ℕ, _<_}
+-- Sameness from the generated contracts of `rings::same`, `vectors::equal` and `mixed::same_as_vector`: of valid containers the value is 1 exactly when
+-- the lists are equal, and 0 exactly when they differ; of rings it is reflexive, symmetric and transitive, and the lists alone decide it.
+use Prim.Native.Nat.{ℕ}
 use mathlib.Core.Path.{_≡_, refl, sym, ap, _∙_}
-use mathlib.Core.Bool.{Bool, true, false, cond, true≢false}
 use mathlib.Core.List.{List}
-use mathlib.Core.Logic.{_⊎_, inl, inr}
-use native.Mathlib.Omega.{arith}
-use borrow.Author.Tests.{eq-eqb, eqb-true}
-use lib.Dec.{eqb}
-use lib.ListN.{length, getD}
-use lib.Seq.{ext-getD}
 use contract.Lifetimes.{Lfts}
-use denote.Ref.{RefT, now}
+use denote.Ref.{RefT}
 use denote.Triple.Clauses.{AtExit}
-use Rattle.slots.specs.Layout.{ring, slotOf, posOf}
-use Rattle.slots.proofs.Placing.{entry, length-entries}
-use Rattle.table.specs.Tray.{Tray, cap, list, invalid}
-use Rattle.table.specs.Calls.{same}
-use Rattle.table.proofs.Laws.Valid.{fit, and-left, and-right}
-use Rattle.table.proofs.Laws.Equal.{equals, are-equal, alike}
-use Rattle.table.proofs.Theorems.Listed.{two-listed}
-use Rattle.table.proofs.Theorems.Upstream.{Says}
-use Rattle.table.proofs.Theorems.UpstreamTwo.{numbered2}
+use Rattle.slots.specs.Layout.{ring, vector}
+use Rattle.table.proofs.Theorems.Sameness as law
+use Rattle.table.proofs.Theorems.Sameness.{Exactly}
 use Rattle.ring.specs.declared.Ring.{Ring}
-use Rattle.ring.specs.Seen.{tray}
-use Rattle.ring.proofs.Upstream.{Valid}
-use Rattle.pairs.specs.declared.rings.Both.{Both}
-use Rattle.pairs.proofs.rings as fn
+use Rattle.ring.proofs.Upstream as rings
+use Rattle.vector.specs.declared.Vector.{Vector}
+use Rattle.vector.proofs.Upstream as vectors
+use Rattle.pairs.specs.declared.rings.Both as of-rings
+use Rattle.pairs.specs.declared.vectors.Both as of-vectors
+use Rattle.pairs.specs.declared.mixed.Both as of-mixed
+use Rattle.pairs.proofs.rings as rings·fn
+use Rattle.pairs.proofs.vectors as vectors·fn
+use Rattle.pairs.proofs.mixed as mixed·fn
 
--- a slot is occupied where its position is below the length
-pub record Same (t t2 : Tray) : Type 0 where
-  pub caps : cap t ≡ cap t2
-  pub heads : t .head ≡ t2 .head
-  pub lens : t .len ≡ t2 .len
-  pub occupied : (s : ℕ) → s < cap t → posOf (cap t) (t .head) s < t .len → getD (t .slots) s 0 ≡ getD (t2 .slots) s 0
+-- In what follows v and s are the container named first and its slots, w and z are T and its slots, r is the result of the call on them, and e the
+-- arguments as they are at the return.
+module _ (κs : Lfts 2) (v w : Ring) (s z : RefT (List ℕ)) (r : of-rings.Both) (e : AtExit rings·fn.same.ended κs) (learnt : rings·fn.same.Reads.Learnt κs (v, (s, (w, (z, tt)))) r e)
+    (ok : rings.Valid v s) (ok2 : rings.Valid w z) where
+  pub same-answers : r .number ≡ 0
+  same-answers = law.same-answers ring ring _ _ _ ok ok2 (learnt .row)
 
-module _ (t t2 : Tray) (ok : invalid ring t ≡ false) where
-  -- position p of the second, where capacity, head and length agree
-  second : cap t ≡ cap t2 → t .head ≡ t2 .head → t .len ≡ t2 .len → (p : ℕ) → p < t .len
-      → getD (list ring t2) p 0 ≡ getD (t2 .slots) (slotOf (cap t) (t .head) p) 0
-  second caps heads lens p lt =
-      entry (slotOf (cap t2) (t2 .head)) (t2 .len) (t2 .slots) p (omega arith) ∙ ap (λ s. getD (t2 .slots) s 0) (ap (λ c. slotOf c (t2 .head) p) (sym caps) ∙ ap (λ h. slotOf (cap t) h p) (sym heads))
+  pub same-exactly : Exactly (r .value) (rings.view v s) (rings.view w z)
+  same-exactly = law.same-exactly ring ring _ _ _ ok ok2 (learnt .row)
 
-  alike-same : alike t t2 ≡ true → Same t t2
-  alike-same e =
-      let rest = and-right (eqb (cap t) (cap t2)) _ e in
-      let last = and-right (eqb (t .head) (t2 .head)) _ rest in
-      let c = eqb-true (cap t) (cap t2) (and-left (eqb (cap t) (cap t2)) _ e) in
-      let h = eqb-true (t .head) (t2 .head) (and-left (eqb (t .head) (t2 .head)) _ rest) in
-      let n = eqb-true (t .len) (t2 .len) (and-left (eqb (t .len) (t2 .len)) _ last) in
-      let l = are-equal (list ring t) (list ring t2) (and-right (eqb (t .len) (t2 .len)) _ last) in
-      record {
-        caps = c;
-        heads = h;
-        lens = n;
-        occupied = λ s inside taken.
-            let p = posOf (cap t) (t .head) s in
-            let at : slotOf (cap t) (t .head) p ≡ s = fit ring t ok .placed .forth s inside in
-            ap (λ s. getD (t .slots) s 0) (sym at)
-            ∙ sym (entry (slotOf (cap t) (t .head)) (t .len) (t .slots) p taken)
-            ∙ ap (λ l. getD l p 0) l
-            ∙ second c h n p taken
-            ∙ ap (λ s. getD (t2 .slots) s 0) at;
-      }
+module _ (κs : Lfts 2) (v w : Vector) (s z : RefT (List ℕ)) (r : of-vectors.Both) (e : AtExit vectors·fn.equal.ended κs) (learnt : vectors·fn.equal.Reads.Learnt κs (v, (s, (w, (z, tt)))) r e)
+    (ok : vectors.Valid v s) (ok2 : vectors.Valid w z) where
+  pub equal-exactly : Exactly (r .value) (vectors.view v s) (vectors.view w z)
+  equal-exactly = law.same-exactly vector vector _ _ _ ok ok2 (learnt .row)
 
-  same-alike : Same t t2 → alike t t2 ≡ true
-  same-alike m =
-      let placed = fit ring t ok .placed in
-      let each : (p : ℕ) → p < length (list ring t) → getD (list ring t) p 0 ≡ getD (list ring t2) p 0 = λ p below.
-      let lt : p < t .len = omega (arith, length-entries (slotOf (cap t) (t .head)) (t .len) (t .slots)) in
-      let small : p < cap t = omega (arith, fit ring t ok .fits) in
-      entry (slotOf (cap t) (t .head)) (t .len) (t .slots) p lt
-      ∙ m .occupied (slotOf (cap t) (t .head) p) (placed .inside p small) (rw (placed .back p small) lt)
-      ∙ sym (second (m .caps) (m .heads) (m .lens) p lt) in
-      let lists = ext-getD 0 (list ring t) (list ring t2) (length-entries _ (t .len) (t .slots) ∙ m .lens ∙ sym (length-entries _ (t2 .len) (t2 .slots))) each in
-      rw (eq-eqb _ _ (m .caps), eq-eqb _ _ (m .heads), eq-eqb _ _ (m .lens)) (equals (list ring t) (list ring t2) lists)
+module _ (κs : Lfts 2) (v : Ring) (w : Vector) (s z : RefT (List ℕ)) (r : of-mixed.Both) (e : AtExit mixed·fn.same_as_vector.ended κs)
+    (learnt : mixed·fn.same_as_vector.Reads.Learnt κs (v, (s, (w, (z, tt)))) r e) (ok : rings.Valid v s) (ok2 : vectors.Valid w z) where
+  pub same-as-vector-answers : r .number ≡ 0
+  same-as-vector-answers = law.same-answers ring vector _ _ _ ok ok2 (learnt .row)
 
-  decided : (b : Bool) → alike t t2 ≡ b → (value : ℕ) → value ≡ cond (alike t t2) 1 0 → Says value 1 (Same t t2) ⊎ Says value 0 (Same t t2 → ⊥)
-  decided true e value is = inl (is ∙ rw e, alike-same e)
-  decided false e value is = inr (is ∙ rw e, λ m. true≢false (sym (same-alike m) ∙ e))
+  pub same-as-vector-exactly : Exactly (r .value) (rings.view v s) (vectors.view w z)
+  same-as-vector-exactly = law.same-exactly ring vector _ _ _ ok ok2 (learnt .row)
 
-module _ (κs : Lfts 2) (v w : Ring) (s z : RefT (List ℕ)) (r : Both) (e : AtExit fn.same.ended κs) (learnt : fn.same.Reads.Learnt κs (v, (s, (w, (z, tt)))) r e) where
-  pub same-answers : Valid v s → Valid w z → r .number ≡ 0
-  same-answers ok ok2 = numbered2 ring ring same _ _ _ (learnt .row) ok ok2
+-- REFLEXIVE: a ring with itself
+pub same-reflexive : (κs : Lfts 2) (v : Ring) (s : RefT (List ℕ)) (r : of-rings.Both) (e : AtExit rings·fn.same.ended κs)
+    → rings·fn.same.Reads.Learnt κs (v, (s, (v, (s, tt)))) r e → rings.Valid v s → r .value ≡ 1
+same-reflexive κs v s r e learnt ok = same-exactly κs v v s s r e learnt ok ok .equal refl
 
-  pub same-value : Valid v s → Valid w z → Says (r .value) 1 (Same (tray v (now s)) (tray w (now z))) ⊎ Says (r .value) 0 (Same (tray v (now s)) (tray w (now z)) → ⊥)
-  same-value ok ok2 =
-      decided (tray v (now s)) (tray w (now z)) ok _ refl (r .value) (two-listed ring ring same _ _ _ (learnt .row) (same-answers ok ok2) .value)
+-- Two calls, of which the second is told with a prime.
+module _ (κs κs′ : Lfts 2) (r r′ : of-rings.Both) (e : AtExit rings·fn.same.ended κs) (e′ : AtExit rings·fn.same.ended κs′) where
+  -- SYMMETRIC
+  pub same-symmetric : (v w : Ring) (s z : RefT (List ℕ)) → rings·fn.same.Reads.Learnt κs (v, (s, (w, (z, tt)))) r e
+      → rings·fn.same.Reads.Learnt κs′ (w, (z, (v, (s, tt)))) r′ e′ → rings.Valid v s → rings.Valid w z → r .value ≡ r′ .value
+  same-symmetric v w s z learnt learnt′ ok ok2 =
+      ap (λ o. o .value) (learnt .row) ∙ law.same-symmetric ring ring _ _ ok ok2 ∙ sym (ap (λ o. o .value) (learnt′ .row))
+
+  -- THE LISTS ALONE DECIDE: rings that hold the same lists, at other heads or on other capacities, get the same answer
+  pub same-by-lists : (v w v′ w′ : Ring) (s z s′ z′ : RefT (List ℕ)) → rings·fn.same.Reads.Learnt κs (v, (s, (w, (z, tt)))) r e
+      → rings·fn.same.Reads.Learnt κs′ (v′, (s′, (w′, (z′, tt)))) r′ e′ → rings.Valid v s → rings.Valid w z → rings.Valid v′ s′ → rings.Valid w′ z′
+      → rings.view v s ≡ rings.view v′ s′ → rings.view w z ≡ rings.view w′ z′ → r .value ≡ r′ .value
+  same-by-lists v w v′ w′ s z s′ z′ learnt learnt′ ok ok2 ok′ ok2′ l l2 =
+      ap (λ o. o .value) (learnt .row) ∙ law.same-by-lists ring ring ring ring _ _ _ _ ok ok2 ok′ ok2′ l l2 ∙ sym (ap (λ o. o .value) (learnt′ .row))
+
+  -- TRANSITIVE: a third call on the outer two
+  pub same-transitive : (κs″ : Lfts 2) (r″ : of-rings.Both) (e″ : AtExit rings·fn.same.ended κs″) (v w u : Ring) (s z y : RefT (List ℕ))
+      → rings·fn.same.Reads.Learnt κs (v, (s, (w, (z, tt)))) r e → rings·fn.same.Reads.Learnt κs′ (w, (z, (u, (y, tt)))) r′ e′
+      → rings·fn.same.Reads.Learnt κs″ (v, (s, (u, (y, tt)))) r″ e″ → rings.Valid v s → rings.Valid w z → rings.Valid u y
+      → r .value ≡ 1 → r′ .value ≡ 1 → r″ .value ≡ 1
+  same-transitive κs″ r″ e″ v w u s z y learnt learnt′ learnt″ ok ok2 ok3 one one′ =
+      same-exactly κs″ v u s y r″ e″ learnt″ ok ok3 .equal (same-exactly κs v w s z r e learnt ok ok2 .one one ∙ same-exactly κs′ w u z y r′ e′ learnt′ ok2 ok3 .one one′)

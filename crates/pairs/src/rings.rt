@@ -107,32 +107,24 @@ pub fn clone(first: Ring, slots: &[u32], second: Ring, theirs: &mut [u32]) -> Bo
     done(0, first, ring::state(0, len))
 }
 
-// Whether capacity, head, length and all occupied slots agree.
+// Whether both hold the same entries in the same order, whatever the heads and capacities.
 pub fn same(first: Ring, slots: &[u32], second: Ring, theirs: &[u32]) -> Both
     ensures { λ r. ⌜ Meets same first (now (slots .entry)) second (now (theirs .entry)) r (now (slots .entry)) (now (theirs .entry)) ⌝ }
 {
-    let cap = slots.len();
     let head = first.head;
     let len = first.len;
-    if table::invalid_ring(cap, head, len) {
+    if table::invalid_ring(slots.len(), head, len) {
         return refused(1, first, second);
     }
-    let room = theirs.len();
     let from = second.head;
     let count = second.len;
-    if table::invalid_ring(room, from, count) {
+    if table::invalid_ring(theirs.len(), from, count) {
         return refused(2, first, second);
-    }
-    if cap != room {
-        return done(0, first, second);
-    }
-    if head != from {
-        return done(0, first, second);
     }
     if len != count {
         return done(0, first, second);
     }
-    if runs::compare::rings(slots, theirs, head, len) {
+    if runs::compare::rings(slots, head, theirs, from, len) {
         return done(1, first, second);
     }
     done(0, first, second)

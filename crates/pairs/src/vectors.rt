@@ -1,7 +1,7 @@
 // Calls on two vectors. What is refused is refused before the first slot is written, and entries go over as one run of slots.
 use vector::Vector;
 ghost use mathlib.Core.Path.{_≡_};
-ghost use Rattle.table.specs.Calls.{append, splitOff, clone, equal};
+ghost use Rattle.table.specs.Calls.{append, splitOff, clone, same};
 ghost use Rattle.vector.specs.Seen.{state};
 ghost use Rattle.pairs.specs.Vectors.{Meets, says};
 
@@ -91,9 +91,9 @@ pub fn clone(first: Vector, slots: &[u32], second: Vector, theirs: &mut [u32]) -
     done(0, first, vector::state(len))
 }
 
-// Whether lengths and entries are equal.
+// Whether both hold the same entries in the same order.
 pub fn equal(first: Vector, slots: &[u32], second: Vector, theirs: &[u32]) -> Both
-    ensures { λ r. ⌜ Meets equal first (now (slots .entry)) second (now (theirs .entry)) r (now (slots .entry)) (now (theirs .entry)) ⌝ }
+    ensures { λ r. ⌜ Meets same first (now (slots .entry)) second (now (theirs .entry)) r (now (slots .entry)) (now (theirs .entry)) ⌝ }
 {
     let len = first.len;
     if table::invalid_vector(slots.len(), len) {
@@ -103,7 +103,10 @@ pub fn equal(first: Vector, slots: &[u32], second: Vector, theirs: &[u32]) -> Bo
     if table::invalid_vector(theirs.len(), count) {
         return refused(2, first, second);
     }
-    if runs::compare::parts(&slots[..len], &theirs[..count]) {
+    if len != count {
+        return done(0, first, second);
+    }
+    if runs::compare::firsts(slots, theirs, len) {
         return done(1, first, second);
     }
     done(0, first, second)

@@ -50,6 +50,13 @@ impl Desk {
         self.did(a.number, a.value, a.moves)
     }
 
+    pub(crate) fn after_mixed(mut self, a: pairs::mixed::Both) -> Did {
+        let first = a.first;
+        self.first = first;
+        self.second = ring::state(0, a.second.len);
+        self.did(a.number, a.value, a.moves)
+    }
+
     // A part bears no number: its length stands as the value, and a line for each entry is in the text.
     pub(crate) fn after_part(mut self, count: usize) -> Did {
         let n = crate::desks::least(count, 4200);

@@ -22,6 +22,7 @@ pub(crate) fn call(
         0x20..=0x33 => desk.after_vector(on_vector(q, over, slots, theirs)),
         0x38..=0x3d => desk.after_part(crate::shows::part(q, over, slots, text)),
         0x40..=0x43 => desk.after_rings(on_rings(op, q.a, desk, slots, theirs)),
+        0x44 => desk.after_mixed(on_mixed(desk, slots, theirs)),
         0x50..=0x53 => desk.after_vectors(on_vectors(op, q.a, desk, slots, theirs)),
         0x60..=0x66 => over_ring(op, q.a, desk, slots, theirs),
         0x70..=0x76 => over_vector(op, q.a, desk, slots, theirs),
@@ -95,6 +96,12 @@ fn on_rings(
         0x42 => pairs::rings::clone(first, slots, second, theirs),
         _ => pairs::rings::same(first, slots, second, theirs), // 43
     }
+}
+
+// The first as a ring, the second as a vector.
+fn on_mixed(desk: Desk, slots: &[u32], theirs: &[u32]) -> pairs::mixed::Both {
+    let second = crate::desks::vector(desk.second);
+    pairs::mixed::same_as_vector(desk.first, slots, second, theirs)
 }
 
 fn on_vectors(

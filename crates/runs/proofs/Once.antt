@@ -57,8 +57,11 @@ module _ (κs : Lfts 2) where
   pub carry-once : Twice copy·fn.carry.ended κs (copy·fn.carry.Reads.Learnt κs) (λ r e r′ e′. now (e .0) ≡ now (e′ .0))
   carry-once a r r′ e e′ = one-lay _ _ _ _ _ _ _ _ (placing-any _ _)
 
-  pub parts-once : Twice compare·fn.parts.ended κs (compare·fn.parts.Reads.Learnt κs) (λ r e r′ e′. r ≡ r′)
-  parts-once a r r′ e e′ = one-tells r r′ _ _
+  pub firsts-once : Twice compare·fn.firsts.ended κs (compare·fn.firsts.Reads.Learnt κs) (λ r e r′ e′. r ≡ r′)
+  firsts-once a r r′ e e′ = one-tells r r′ _ _
+
+  pub ring-with-once : Twice compare·fn.ring_with.ended κs (compare·fn.ring_with.Reads.Learnt κs) (λ r e r′ e′. r ≡ r′)
+  ring-with-once a r r′ e e′ = one-tells r r′ _ _
 
   pub rings-once : Twice compare·fn.rings.ended κs (compare·fn.rings.Reads.Learnt κs) (λ r e r′ e′. r ≡ r′)
   rings-once a r r′ e e′ = one-tells r r′ _ _

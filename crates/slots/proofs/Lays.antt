@@ -53,7 +53,7 @@ run-lay-all s u₀ u at count k m l t = let e : k ≡ count = omega arith in rw 
 abbrev pub from-on : ℕ → List ℕ → List ℕ
 from-on a s = take (length s - a) (drop a s)
 
-getD-on : (a : ℕ) (s : List ℕ) (e : ℕ) → e < length s - a → getD (from-on a s) e 0 ≡ getD s (a + e) 0
+pub getD-on : (a : ℕ) (s : List ℕ) (e : ℕ) → e < length s - a → getD (from-on a s) e 0 ≡ getD s (a + e) 0
 getD-on a s e h = getD-take (length s - a) (drop a s) e 0 h ∙ getD-drop a s e 0
 
 -- the same numbers from another list

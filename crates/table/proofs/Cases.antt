@@ -3,6 +3,7 @@ pub mod Samples
 pub mod Worked
 pub mod WorkedChanges
 pub mod WorkedTwo
+pub mod WorkedSame
 pub mod WorkedMakings
 pub mod WorkedCarrying
 pub mod WorkedLedger

@@ -7,6 +7,7 @@ pub mod Refused
 pub mod Moves
 pub mod Carrying
 pub mod Parts
+pub mod Sameness
 pub mod Offers
 pub mod StaysValid
 pub mod Unique

@@ -1,6 +1,6 @@
 -- The calls of paper 01 that bear a number, and which of them each kind of container has.
 use Prim.Native.Nat.{ℕ}
-use mathlib.Core.Bool.{Bool, true, false, _&&_}
+use mathlib.Core.Bool.{Bool, true, false}
 use mathlib.Core.List.{List}
 use Rattle.slots.specs.Layout.{Kind, ring, vector}
 use Rattle.table.specs.Tray.{Cursor}
@@ -28,13 +28,13 @@ pub data Call : Type 0 where
   extend : (s : List ℕ) → Call
   look : Look → Call
 
--- A call on two containers, of which T is the second. `same` is ring sameness, `equal` vector equality.
+-- A call on two containers, of which T is the second. `same` is ring sameness, vector equality, and a ring's sameness with a vector.
 pub data Call2 : Type 0 where
   append : Call2
   splitOff : (at : ℕ) → Call2
   clone : Call2
   fromIter : Cursor → Call2
-  same equal : Call2
+  same : Call2
 
 -- A container's one making.
 pub data Making : Type 0 where
@@ -98,13 +98,14 @@ alike vector = vectors
 abbrev pub intoVector : Kind → Kind → Bool
 intoVector k = vectors
 
-abbrev pub two : (Kind → Bool) → Kind → Kind → Bool
-two of k k2 = of k && of k2
+-- T is of the same kind, or a vector
+abbrev pub comparable : Kind → Kind → Bool
+comparable ring = both
+comparable vector = vectors
 
 abbrev pub has2 : Call2 → Kind → Kind → Bool
 has2 append = alike
 has2 (splitOff at) = alike
 has2 clone = alike
 has2 (fromIter u) = intoVector
-has2 same = two rings
-has2 equal = two vectors
+has2 same = comparable

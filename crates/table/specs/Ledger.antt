@@ -5,7 +5,7 @@ use mathlib.Core.List.{List, [], _∷_, _++_}
 use lib.ListN.{length, drop, replicate, getD, set}
 use Rattle.slots.specs.Count.{count}
 use Rattle.table.specs.Calls.{Call, push, pushFront, pop, popFront, insert, remove, swapRemove, write, truncate, resize, clear, extend, look}
-use Rattle.table.specs.Calls.{Call2, append, splitOff, clone, fromIter, same, equal}
+use Rattle.table.specs.Calls.{Call2, append, splitOff, clone, fromIter, same}
 use Rattle.table.specs.Table.{after, after2, remaining}
 
 pub record Flow : Type 0 where
@@ -48,7 +48,6 @@ flow2 (splitOff at) l = none
 flow2 clone l = enters l
 flow2 (fromIter u) l = enters (remaining u l)
 flow2 same l = none
-flow2 equal l = none
 
 -- A rule of the ledger: where the call is done, the list after it, and what it enters, hands out and drops, by its value v and the list l before it.
 pub record Rule : Type 0 where

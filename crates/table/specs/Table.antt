@@ -12,7 +12,7 @@ use Rattle.slots.specs.Moves.{Carried, stay, inserted, removed, swapped, replac
 use Rattle.table.specs.Tray.{Cursor, nowhere, within}
 use Rattle.table.specs.Calls.{Look, len, isEmpty, read, reserve, tryReserve, tryReserveExact, range, iter, intoIter, stepFront, stepBack, peekFront, peekBack}
 use Rattle.table.specs.Calls.{Call, push, pushFront, pop, popFront, insert, remove, swapRemove, write, truncate, resize, clear, extend, look}
-use Rattle.table.specs.Calls.{Call2, append, splitOff, clone, fromIter, same, equal, Making, new, withCapacity, fromElem}
+use Rattle.table.specs.Calls.{Call2, append, splitOff, clone, fromIter, same, Making, new, withCapacity, fromElem}
 
 -- LIST AFTERWARDS. `take k` of a list with no more than k entries is that list.
 abbrev pub after : Call → (l : List ℕ) → List ℕ
@@ -41,7 +41,6 @@ after2 (splitOff at) l l2 = (take at l, drop at l)
 after2 clone l l2 = (l, l)
 after2 (fromIter u) l l2 = (l, remaining u l)
 after2 same l l2 = (l, l2)
-after2 equal l l2 = (l, l2)
 
 -- the list that a making begins with
 abbrev pub begins : Making → List ℕ
@@ -184,5 +183,4 @@ row2 c h n l c2 h2 n2 l2 (fromIter u) = record {
   given = u;
   cursor = record { front = u .back; back = u .back };
 }
-row2 c h n l c2 h2 n2 l2 same = asks2 (eqb c c2 && (eqb h h2 && (eqb n n2 && equalLists l l2))) h2
-row2 c h n l c2 h2 n2 l2 equal = asks2 (equalLists l l2) h2
+row2 c h n l c2 h2 n2 l2 same = asks2 (equalLists l l2) h2

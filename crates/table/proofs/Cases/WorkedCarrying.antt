@@ -6,7 +6,7 @@ use Prim.Native.Nat.{ℕ}
 use Rattle.slots.specs.Layout.{ring, vector}
 use Rattle.slots.specs.Moves.{Carried, to, gone}
 use Rattle.table.specs.Calls.{push, pushFront, pop, popFront, insert, remove, swapRemove, write, truncate, resize, clear, extend, look, read, iter}
-use Rattle.table.specs.Calls.{append, splitOff, clone, fromIter, same, equal}
+use Rattle.table.specs.Calls.{append, splitOff, clone, fromIter, same}
 use Rattle.table.specs.Does.{rowOf, rowOf2}
 use Rattle.table.proofs.Theorems.Trays.{cursor, W, U}
 use Rattle.table.proofs.Cases.Samples.{emptyRing, emptyVector}
@@ -54,5 +54,6 @@ carried-nowhere :
     × (three (rowOf2 ring ring clone W emptyRing .carry) ≡ allStay)
     × (three (rowOf2 ring vector (fromIter (cursor 1 3)) W emptyVector .carry) ≡ allStay)
     × (three (rowOf2 ring ring same W emptyRing .carry) ≡ allStay)
-    × (three (rowOf2 vector vector equal U emptyVector .carry) ≡ allStay)
-carried-nowhere = (refl, refl, refl, refl, refl, refl, refl, refl, refl, refl, refl, refl)
+    × (three (rowOf2 vector vector same U emptyVector .carry) ≡ allStay)
+    × (three (rowOf2 ring vector same W emptyVector .carry) ≡ allStay)
+carried-nowhere = (refl, refl, refl, refl, refl, refl, refl, refl, refl, refl, refl, refl, refl)

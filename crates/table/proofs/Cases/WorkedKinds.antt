@@ -5,7 +5,7 @@ use mathlib.Core.List.{List, [], _∷_}
 use Rattle.slots.specs.Layout.{Kind, ring, vector}
 use Rattle.table.specs.Calls.{look, len, isEmpty, read, reserve, tryReserve, tryReserveExact, range, iter, intoIter, stepFront, stepBack, peekFront, peekBack}
 use Rattle.table.specs.Calls.{push, pushFront, pop, popFront, insert, remove, swapRemove, write, truncate, resize, clear, extend}
-use Rattle.table.specs.Calls.{append, splitOff, clone, fromIter, same, equal, new, withCapacity, fromElem, has, has2, hasMaking}
+use Rattle.table.specs.Calls.{append, splitOff, clone, fromIter, same, new, withCapacity, fromElem, has, has2, hasMaking}
 use Rattle.table.proofs.Theorems.Trays.{cursor}
 
 -- whether a ring has it, and whether a vector has
@@ -57,7 +57,7 @@ both-kinds :
     × (kinds (hasMaking (withCapacity 1)) ≡ both)
 both-kinds = (refl, refl, refl, refl, refl, refl, refl, refl, refl, refl, refl, refl, refl, refl, refl, refl, refl, refl, refl)
 
--- T is of the same kind, in from_iter a vector; sameness is of rings, equality of vectors. Named first is a ring, then a vector.
+-- T is of the same kind, in from_iter a vector; a ring is compared with either, a vector with a vector. Named first is a ring, then a vector.
 two-kinds :
     (kinds (has2 append ring) ≡ ringOnly)
     × (kinds (has2 append vector) ≡ vectorOnly)
@@ -67,8 +67,6 @@ two-kinds :
     × (kinds (has2 clone vector) ≡ vectorOnly)
     × (kinds (has2 (fromIter (cursor 0 1)) ring) ≡ vectorOnly)
     × (kinds (has2 (fromIter (cursor 0 1)) vector) ≡ vectorOnly)
-    × (kinds (has2 same ring) ≡ ringOnly)
-    × (kinds (has2 same vector) ≡ false ∷ false ∷ [])
-    × (kinds (has2 equal ring) ≡ false ∷ false ∷ [])
-    × (kinds (has2 equal vector) ≡ vectorOnly)
-two-kinds = (refl, refl, refl, refl, refl, refl, refl, refl, refl, refl, refl, refl)
+    × (kinds (has2 same ring) ≡ both)
+    × (kinds (has2 same vector) ≡ vectorOnly)
+two-kinds = (refl, refl, refl, refl, refl, refl, refl, refl, refl, refl)

@@ -4,7 +4,7 @@ use mathlib.Core.Path.{_≡_, refl}
 use mathlib.Core.List.{List, [], _∷_}
 use Prim.Native.Nat.{ℕ}
 use Rattle.table.specs.Calls.{push, pushFront, pop, popFront, insert, remove, swapRemove, write, truncate, resize, clear, extend, look, len, read, stepFront, peekFront}
-use Rattle.table.specs.Calls.{append, splitOff, clone, fromIter, same, equal, new, withCapacity, fromElem}
+use Rattle.table.specs.Calls.{append, splitOff, clone, fromIter, same, new, withCapacity, fromElem}
 use Rattle.table.specs.Calls.{Call, Call2, Making}
 use Rattle.table.specs.Table.{begins}
 use Rattle.table.specs.Ledger as ledger
@@ -54,12 +54,11 @@ copies :
     × (flow2 append l ≡ nothing)
     × (flow2 (splitOff 1) l ≡ nothing)
     × (flow2 same l ≡ nothing)
-    × (flow2 equal l ≡ nothing)
     × (flow (look (read 1)) 2 l ≡ nothing)
     × (flow (look (peekFront (cursor 0 3) 1)) 2 l ≡ nothing)
     × (flow (look (stepFront (cursor 0 3))) 1 l ≡ nothing)
     × (flow (look len) 3 l ≡ nothing)
-copies = (refl, refl, refl, refl, refl, refl, refl, refl, refl, refl, refl)
+copies = (refl, refl, refl, refl, refl, refl, refl, refl, refl, refl)
 
 -- the lines of paper 01's calls
 abbrev making : Making → (number : ℕ) → Line

@@ -7,10 +7,10 @@ use Rattle.slots.specs.Count.{one, tally}
 use Rattle.slots.specs.Layout.{ring, vector, slotOf, posOf, entries, relaid}
 use Rattle.slots.specs.Moves.{moved}
 use Rattle.table.specs.Tray.{valid}
-use Rattle.table.specs.Calls.{append, splitOff, clone, fromIter, same, equal}
+use Rattle.table.specs.Calls.{append, splitOff, clone, fromIter}
 use Rattle.table.specs.Does.{does2}
 use Rattle.table.proofs.Theorems.Trays.{tray, cursor, W, U}
-use Rattle.table.proofs.Cases.Samples.{gives2, answers2, tells2, shows2, stops2, noSlots, overfull, emptyRing, oneEntry, twoEntries, wrapping, toLast, emptyVector, fullVector}
+use Rattle.table.proofs.Cases.Samples.{gives2, answers2, shows2, stops2, noSlots, overfull, emptyRing, oneEntry, twoEntries, wrapping, toLast, emptyVector, fullVector}
 
 -- append of rings: as many as there are free slots, or none of them; T is emptied whole or not at all.
 ring-appends :
@@ -129,44 +129,3 @@ vector-iters :
     × (does2 vector vector (fromIter (cursor 0 4)) overfull overfull ≡ stops2 1 (cursor 0 4) overfull overfull)
 unfolding does2 valid entries relaid moved tabulate tally one slotOf posOf
 vector-iters = (refl, refl, refl, refl, refl, refl, refl, refl, refl, refl, refl)
-
--- Ring sameness: a free slot that differs does not count, an empty ring has nothing but its capacity and head, and a state that is invalid
--- is not compared.
-samenesses :
-    (does2 ring ring same W (tray 2 3 (11 ∷ 77 ∷ 9 ∷ 10 ∷ [])) ≡ tells2 1 W (tray 2 3 (11 ∷ 77 ∷ 9 ∷ 10 ∷ [])))
-    × (does2 ring ring same emptyRing (tray 1 0 (7 ∷ 8 ∷ [])) ≡ tells2 1 emptyRing (tray 1 0 (7 ∷ 8 ∷ [])))
-    × (does2 ring ring same emptyRing (tray 0 0 (5 ∷ 6 ∷ [])) ≡ tells2 0 emptyRing (tray 0 0 (5 ∷ 6 ∷ [])))
-    × (does2 ring ring same emptyRing (tray 1 0 (5 ∷ 6 ∷ 7 ∷ [])) ≡ tells2 0 emptyRing (tray 1 0 (5 ∷ 6 ∷ 7 ∷ [])))
-    × (does2 ring ring same noSlots noSlots ≡ tells2 1 noSlots noSlots)
-    × (does2 ring ring same W overfull ≡ answers2 2 W overfull)
-    × (does2 ring ring same overfull overfull ≡ answers2 1 overfull overfull)
-unfolding does2 valid entries relaid moved tabulate tally one slotOf posOf
-samenesses = (refl, refl, refl, refl, refl, refl, refl)
-
--- W and a ring that differs in one thing: the capacity alone, the head alone, the length either way, the first, second or last entry.
-differences :
-    (does2 ring ring same W (tray 2 3 (0 ∷ 0 ∷ 9 ∷ 10 ∷ 11 ∷ [])) ≡ tells2 0 W (tray 2 3 (0 ∷ 0 ∷ 9 ∷ 10 ∷ 11 ∷ [])))
-    × (does2 ring ring same W (tray 1 3 (0 ∷ 9 ∷ 10 ∷ 11 ∷ [])) ≡ tells2 0 W (tray 1 3 (0 ∷ 9 ∷ 10 ∷ 11 ∷ [])))
-    × (does2 ring ring same W (tray 2 2 (11 ∷ 0 ∷ 9 ∷ 10 ∷ [])) ≡ tells2 0 W (tray 2 2 (11 ∷ 0 ∷ 9 ∷ 10 ∷ [])))
-    × (does2 ring ring same W (tray 2 4 (11 ∷ 0 ∷ 9 ∷ 10 ∷ [])) ≡ tells2 0 W (tray 2 4 (11 ∷ 0 ∷ 9 ∷ 10 ∷ [])))
-    × (does2 ring ring same W (tray 2 3 (11 ∷ 0 ∷ 8 ∷ 10 ∷ [])) ≡ tells2 0 W (tray 2 3 (11 ∷ 0 ∷ 8 ∷ 10 ∷ [])))
-    × (does2 ring ring same W (tray 2 3 (11 ∷ 0 ∷ 9 ∷ 8 ∷ [])) ≡ tells2 0 W (tray 2 3 (11 ∷ 0 ∷ 9 ∷ 8 ∷ [])))
-    × (does2 ring ring same W (tray 2 3 (8 ∷ 0 ∷ 9 ∷ 10 ∷ [])) ≡ tells2 0 W (tray 2 3 (8 ∷ 0 ∷ 9 ∷ 10 ∷ [])))
-unfolding does2 valid entries relaid moved tabulate tally one slotOf posOf
-differences = (refl, refl, refl, refl, refl, refl, refl)
-
--- Vector equality: equal lengths and equal entries, whatever the capacities and the free slots.
-equalities :
-    (does2 vector vector equal U (tray 0 3 (1 ∷ 2 ∷ 3 ∷ [])) ≡ tells2 1 U (tray 0 3 (1 ∷ 2 ∷ 3 ∷ [])))
-    × (does2 vector vector equal U (tray 0 3 (1 ∷ 2 ∷ 3 ∷ 8 ∷ [])) ≡ tells2 1 U (tray 0 3 (1 ∷ 2 ∷ 3 ∷ 8 ∷ [])))
-    × (does2 vector vector equal emptyVector noSlots ≡ tells2 1 emptyVector noSlots)
-    × (does2 vector vector equal U (tray 0 2 (1 ∷ 2 ∷ 3 ∷ 9 ∷ [])) ≡ tells2 0 U (tray 0 2 (1 ∷ 2 ∷ 3 ∷ 9 ∷ [])))
-    × (does2 vector vector equal U (tray 0 4 (1 ∷ 2 ∷ 3 ∷ 9 ∷ [])) ≡ tells2 0 U (tray 0 4 (1 ∷ 2 ∷ 3 ∷ 9 ∷ [])))
-    × (does2 vector vector equal U (tray 0 3 (8 ∷ 2 ∷ 3 ∷ 9 ∷ [])) ≡ tells2 0 U (tray 0 3 (8 ∷ 2 ∷ 3 ∷ 9 ∷ [])))
-    × (does2 vector vector equal U (tray 0 3 (1 ∷ 2 ∷ 8 ∷ 9 ∷ [])) ≡ tells2 0 U (tray 0 3 (1 ∷ 2 ∷ 8 ∷ 9 ∷ [])))
-    × (does2 vector vector equal emptyVector fullVector ≡ tells2 0 emptyVector fullVector)
-    × (does2 vector vector equal fullVector emptyVector ≡ tells2 0 fullVector emptyVector)
-    × (does2 vector vector equal U overfull ≡ answers2 2 U overfull)
-    × (does2 vector vector equal overfull overfull ≡ answers2 1 overfull overfull)
-unfolding does2 valid entries relaid moved tabulate tally one slotOf posOf
-equalities = (refl, refl, refl, refl, refl, refl, refl, refl, refl, refl, refl)

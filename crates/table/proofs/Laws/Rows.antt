@@ -12,7 +12,7 @@ use Rattle.slots.specs.Layout.{slotOf}
 use Rattle.slots.proofs.Counts.{count-append, count-split, count-at, count-set, count-last, count-swap}
 use Rattle.slots.proofs.Placing.{slot-inside}
 use Rattle.table.specs.Calls.{Call, push, pushFront, pop, popFront, insert, remove, swapRemove, write, truncate, resize, clear, extend, look}
-use Rattle.table.specs.Calls.{Call2, append, splitOff, clone, fromIter, same, equal, Making, new, withCapacity, fromElem}
+use Rattle.table.specs.Calls.{Call2, append, splitOff, clone, fromIter, same, Making, new, withCapacity, fromElem}
 use Rattle.table.specs.Table.{row, row2, makes, after, after2, begins}
 use Rattle.table.specs.Ledger.{Flow, flow, flow2}
 use Rattle.table.proofs.Laws.Refusals.{Clear}
@@ -93,7 +93,6 @@ kept2 x c h c2 h2 (fromIter u) l l2 fits fits2 e = record {
   balance = omega (arith, count-none x l2 (omega (arith, readings)));
 }
 kept2 x c h c2 h2 same l l2 fits fits2 e = record { room = fits; room2 = fits2; balance = refl }
-kept2 x c h c2 h2 equal l l2 fits fits2 e = record { room = fits; room2 = fits2; balance = refl }
 
 -- The head afterwards is a slot, or 0 where there is none.
 turned : (c h j : ℕ) → h < c → slotOf c h j ≤ c - 1
@@ -125,4 +124,3 @@ headed2 (splitOff at) c h n l c2 h2 n2 l2 ok = omega arith
 headed2 clone c h n l c2 h2 n2 l2 ok = omega arith
 headed2 (fromIter u) c h n l c2 h2 n2 l2 ok = omega arith
 headed2 same c h n l c2 h2 n2 l2 ok = ok
-headed2 equal c h n l c2 h2 n2 l2 ok = ok

@@ -20,7 +20,7 @@ use Rattle.slots.proofs.Relaid.{entries-relaid}
 use Rattle.slots.proofs.Moves.{removed-low, removed-here, removed-high, swapped-here, swapped-last, swapped-other}
 use Rattle.table.specs.Tray.{Tray, cap, list, invalid}
 use Rattle.table.specs.Calls.{Call, push, pushFront, pop, popFront, insert, remove, swapRemove, write, truncate, resize, clear, extend, look}
-use Rattle.table.specs.Calls.{Call2, append, splitOff, clone, fromIter, same, equal}
+use Rattle.table.specs.Calls.{Call2, append, splitOff, clone, fromIter, same}
 use Rattle.table.specs.Table.{Row, row, row2, after, after2}
 use Rattle.table.specs.Does.{headAfter, relay, rowOf, rowOf2, refusalsOf2, refused2, done2, does, does2}
 use Rattle.table.specs.Ledger.{Flow, flow}
@@ -147,7 +147,6 @@ carried2 c h c2 h2 (splitOff at) l l2 = rw (← append-nil (take at l)) (cut-tru
 carried2 c h c2 h2 clone l l2 = same-true l
 carried2 c h c2 h2 (fromIter u) l l2 = same-true l
 carried2 c h c2 h2 same l l2 = same-true l
-carried2 c h c2 h2 equal l l2 = same-true l
 
 -- IN THE SLOTS: an entry that is carried stands in the slot of its new position, wherever the ring wraps.
 stands : (k : Kind) (t : Tray) (l : List ℕ) (head : ℕ)
@@ -268,7 +267,6 @@ handedOver (splitOff at) l l2 = after2 (splitOff at) l l2 .1
 handedOver clone l l2 = []
 handedOver (fromIter u) l l2 = []
 handedOver same l l2 = []
-handedOver equal l l2 = []
 
 -- Of the first of two only split_off leaves entries out, and they are T's list.
 pub left-out2 : (c h c2 h2 : ℕ) (call : Call2) (l l2 : List ℕ) → leftOut (row2 c h (length l) l c2 h2 (length l2) l2 call .carry) l ≡ handedOver call l l2
@@ -277,4 +275,3 @@ left-out2 c h c2 h2 (splitOff at) l l2 = rest-left _ at l
 left-out2 c h c2 h2 clone l l2 = none-left _ l
 left-out2 c h c2 h2 (fromIter u) l l2 = none-left _ l
 left-out2 c h c2 h2 same l l2 = none-left _ l
-left-out2 c h c2 h2 equal l l2 = none-left _ l

@@ -18,7 +18,7 @@ use Rattle.slots.proofs.Moves.{moved-each, tally-before, tally-from, tally-past
 use Rattle.slots.proofs.Moves.{moved-stay, moved-kept, moved-none, moved-replaced, swap-moves-none, swap-moves-one}
 use Rattle.table.specs.Tray.{Tray, cap, list, valid, invalid, nowhere}
 use Rattle.table.specs.Calls.{Call, push, pushFront, pop, popFront, insert, remove, swapRemove, write, truncate, resize, clear, extend, look, has}
-use Rattle.table.specs.Calls.{Call2, append, splitOff, clone, fromIter, same, equal, Making}
+use Rattle.table.specs.Calls.{Call2, append, splitOff, clone, fromIter, same, Making}
 use Rattle.table.specs.Table.{headBack, headOn, after, after2, begins, makes}
 use Rattle.table.specs.Does.{Outcome, Outcome2, refused, refused2, headAfter, rowOf, rowOf2, refusalsOf, refusalsOf2, refusalsMade, done, done2, does, does2, bare, made}
 use Rattle.table.specs.Ledger.{ifDone}
@@ -253,7 +253,6 @@ moves-of2 k k2 call t t2 =
     go clone = moved-stay _ (t .len)
     go (fromIter u) = moved-stay _ (t .len)
     go same = moved-stay _ (t .len)
-    go equal = moved-stay _ (t .len)
 
 pub moves-made : (k : Kind) (m : Making) (slots : List ℕ) → made k m slots .moves ≡ 0
 unfolding made moved tally

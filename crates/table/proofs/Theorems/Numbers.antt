@@ -14,7 +14,7 @@ use Rattle.slots.proofs.Words.{below?}
 use Rattle.table.specs.Tray.{Tray, within}
 use Rattle.table.specs.Calls.{Look, len, isEmpty, read, reserve, tryReserve, tryReserveExact, range, iter, intoIter, stepFront, stepBack, peekFront, peekBack}
 use Rattle.table.specs.Calls.{Call, push, pushFront, pop, popFront, insert, remove, swapRemove, write, truncate, resize, clear, extend, look}
-use Rattle.table.specs.Calls.{Call2, append, splitOff, clone, fromIter, same, equal, Making, new, withCapacity, fromElem}
+use Rattle.table.specs.Calls.{Call2, append, splitOff, clone, fromIter, same, Making, new, withCapacity, fromElem}
 use Rattle.table.specs.Table.{Refusal, taken, full, numberOf, makes, holding}
 use Rattle.table.specs.Does.{Outcome, Outcome2, rowOf, rowOf2, refusalsOf, refusalsOf2, refusalsMade, does, does2, made}
 use Rattle.table.specs.Numbers.{Astray, NoRoom, Applies, Applies2, AppliesMade, Lowest}
@@ -199,7 +199,6 @@ row2-sound k k2 t t2 clone = (λ e. taken-clone (holding-of _ e), (λ e. full-cl
 row2-sound k k2 t t2 (fromIter u) =
     (λ e. astray-from (astray-of _ _ _ e), (λ e. taken-from (holding-of _ e), (λ e. full-from (no-room-of _ _ _ e), tt)))
 row2-sound k k2 t t2 same = tt
-row2-sound k k2 t t2 equal = tt
 
 row2-tested : {k k2 : Kind} {t t2 : Tray} {j : ℕ} {call : Call2} → Applies2 k k2 t t2 j call → Tests j (refusalsOf2 k k2 call t t2)
 row2-tested (Applies2.first-invalid e) = inl (e, omega arith)

@@ -8,7 +8,7 @@ use Rattle.slots.specs.Layout.{Kind, ring, vector}
 use Rattle.table.specs.Tray.{Cursor}
 use Rattle.table.specs.Calls.{len, isEmpty, read, reserve, tryReserve, tryReserveExact, range, iter, intoIter, stepFront, stepBack, peekFront, peekBack}
 use Rattle.table.specs.Calls.{Call, push, pushFront, pop, popFront, insert, remove, swapRemove, write, truncate, resize, clear, extend, look, has}
-use Rattle.table.specs.Calls.{append, splitOff, clone, fromIter, same, equal, has2, new, withCapacity, fromElem, hasMaking}
+use Rattle.table.specs.Calls.{append, splitOff, clone, fromIter, same, has2, new, withCapacity, fromElem, hasMaking}
 
 -- the calls of one kind only
 pub data Only : Kind → Call → Type 0 where
@@ -76,20 +76,13 @@ unlike-lacks vector at = (refl, refl, refl)
 pub from-iter-has : (k : Kind) (u : Cursor) → (has2 (fromIter u) k vector ≡ true) × (has2 (fromIter u) k ring ≡ false)
 from-iter-has k u = (refl, refl)
 
--- sameness is of rings, equality of vectors
-pub same-has : (has2 same ring ring ≡ true) × (has2 same vector vector ≡ false) × ((k : Kind) → has2 same k (other k) ≡ false)
-same-has = (refl, refl, unlike)
+-- sameness is of two of a kind, and of a ring with a vector in that order
+pub same-has : ((k : Kind) → has2 same k k ≡ true) × (has2 same ring vector ≡ true) × (has2 same vector ring ≡ false)
+same-has = (alike, refl, refl)
   where
-    unlike : (k : Kind) → has2 same k (other k) ≡ false
-    unlike ring = refl
-    unlike vector = refl
-
-pub equal-has : (has2 equal vector vector ≡ true) × (has2 equal ring ring ≡ false) × ((k : Kind) → has2 equal k (other k) ≡ false)
-equal-has = (refl, refl, unlike)
-  where
-    unlike : (k : Kind) → has2 equal k (other k) ≡ false
-    unlike ring = refl
-    unlike vector = refl
+    alike : (k : Kind) → has2 same k k ≡ true
+    alike ring = refl
+    alike vector = refl
 
 -- from_elem makes a vector
 pub making-has : (k : Kind) (m x : ℕ)

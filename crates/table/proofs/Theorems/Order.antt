@@ -7,7 +7,7 @@ use Prim.Native.Nat.{ℕ}
 use lib.Dec.{leb}
 use Rattle.table.specs.Calls.{Look, len, isEmpty, read, reserve, tryReserve, tryReserveExact, range, iter, intoIter, stepFront, stepBack, peekFront, peekBack}
 use Rattle.table.specs.Calls.{Call, push, pushFront, pop, popFront, insert, remove, swapRemove, write, truncate, resize, clear, extend, look}
-use Rattle.table.specs.Calls.{Call2, append, splitOff, clone, fromIter, same, equal, Making, new, withCapacity, fromElem}
+use Rattle.table.specs.Calls.{Call2, append, splitOff, clone, fromIter, same, Making, new, withCapacity, fromElem}
 use Rattle.table.specs.Table.{Refusal, numberOf, row, lookRow, row2, makes}
 
 -- no number of the list is below m, nor below one before it
@@ -56,4 +56,3 @@ row2-rising c h n l c2 h2 n2 l2 (splitOff at) = refl
 row2-rising c h n l c2 h2 n2 l2 clone = refl
 row2-rising c h n l c2 h2 n2 l2 (fromIter u) = refl
 row2-rising c h n l c2 h2 n2 l2 same = refl
-row2-rising c h n l c2 h2 n2 l2 equal = refl

@@ -2,10 +2,9 @@
 -- second, stands for upstream's `other` and for the container that it returns.
 use Prim.Native.Nat.{ℕ, _-_, _≤_, _<_}
 use mathlib.Core.Path.{_≡_, ap, _∙_}
-use mathlib.Core.Bool.{true, false, cond, true≢false, false≢true}
-use mathlib.Core.List.{List, [], _++_, List-discrete}
+use mathlib.Core.Bool.{true, false, cond}
+use mathlib.Core.List.{List, [], _++_}
 use mathlib.Core.Logic.{_⊎_, inl, inr, ⊎-elim}
-use native.Mathlib.Decide.{ℕ-discrete}
 use native.Mathlib.Omega.{arith}
 use borrow.Author.Tests.{lt-ltb, le-ltb, eq-eqb, ne-eqb}
 use lib.Dec.{ltb}
@@ -14,14 +13,15 @@ use lib.Seq.{ext-getD}
 use Rattle.slots.specs.Layout.{Kind}
 use Rattle.slots.proofs.Words.{below?}
 use Rattle.table.specs.Tray.{Tray, cap, list, invalid}
-use Rattle.table.specs.Calls.{Call2, append, splitOff, clone, equal}
+use Rattle.table.specs.Calls.{Call2, append, splitOff, clone, same}
 use Rattle.table.specs.Table.{after2, holding, equalLists}
 use Rattle.table.specs.Does.{Outcome2, rowOf2, does2}
 use Rattle.table.proofs.Laws.Refusals.{firstNumber}
 use Rattle.table.proofs.Laws.Done.{many}
-use Rattle.table.proofs.Laws.Equal.{tells-equal}
+use Rattle.table.proofs.Laws.Equal.{equal?}
 use Rattle.table.proofs.Theorems.Refused.{two-settled}
 use Rattle.table.proofs.Theorems.Listed.{two-listed}
+use Rattle.table.proofs.Theorems.Sameness.{same-exactly}
 use Rattle.table.proofs.Theorems.Upstream.{Says, IfRoom, by-lt}
 
 -- 0 where T is empty and holds m, else 5 or 6
@@ -102,26 +102,20 @@ EqSpec l l2 = (length l ≡ length l2) × ((i : ℕ) → i < length l → getD l
 
 -- and so equal lists, and the other way round
 pub eq-spec-lists : (l l2 : List ℕ) → EqSpec l l2 → l ≡ l2
-eq-spec-lists l l2 same = ext-getD 0 l l2 (same .0) (same .1)
+eq-spec-lists l l2 spec = ext-getD 0 l l2 (spec .0) (spec .1)
 
 pub lists-eq-spec : (l l2 : List ℕ) → l ≡ l2 → EqSpec l l2
 lists-eq-spec l l2 e = (ap length e, λ i below. ap (λ l. getD l i 0) e)
 
-equal? : (l l2 : List ℕ) → ((equalLists l l2 ≡ true) × (l ≡ l2)) ⊎ ((equalLists l l2 ≡ false) × (l ≡ l2 → ⊥))
-equal? l l2 = elim (List-discrete ℕ-discrete l l2) [
-  | yes e ↦ inl (tells-equal true l l2 (record { yes = λ z. e; no = λ z. absurd (true≢false z) }), e)
-  | no ne ↦ inr (tells-equal false l l2 (record { yes = λ z. absurd (false≢true z); no = λ z. ne }), ne)
-]
-
-module _ (k k2 : Kind) (t t2 : Tray) (o : Outcome2) (ok : invalid k t ≡ false) (ok2 : invalid k2 t2 ≡ false) (promised : o ≡ does2 k k2 equal t t2) where
+module _ (k k2 : Kind) (t t2 : Tray) (o : Outcome2) (ok : invalid k t ≡ false) (ok2 : invalid k2 t2 ≡ false) (promised : o ≡ does2 k k2 same t t2) where
   pub equal-answers : o .number ≡ 0
-  equal-answers = numbered2 k k2 equal t t2 o promised ok ok2
+  equal-answers = numbered2 k k2 same t t2 o promised ok ok2
 
   -- yes is 1, no is 0
   pub equal-value : Says (o .value) 1 (EqSpec (list k t) (list k2 t2)) ⊎ Says (o .value) 0 (EqSpec (list k t) (list k2 t2) → ⊥)
   equal-value =
-      let value = two-listed k k2 equal t t2 o promised equal-answers .value in
+      let exact = same-exactly k k2 t t2 o ok ok2 promised in
       ⊎-elim
-      (λ (same : (equalLists (list k t) (list k2 t2) ≡ true) × (list k t ≡ list k2 t2)). inl (value ∙ rw (same .0), lists-eq-spec _ _ (same .1)))
-      (λ (not : (equalLists (list k t) (list k2 t2) ≡ false) × (list k t ≡ list k2 t2 → ⊥)). inr (value ∙ rw (not .0), λ same. not .1 (eq-spec-lists _ _ same)))
+      (λ (is : (equalLists (list k t) (list k2 t2) ≡ true) × (list k t ≡ list k2 t2)). inl (exact .equal (is .1), lists-eq-spec _ _ (is .1)))
+      (λ (not : (equalLists (list k t) (list k2 t2) ≡ false) × (list k t ≡ list k2 t2 → ⊥)). inr (exact .differ (not .1), λ spec. not .1 (eq-spec-lists _ _ spec)))
       (equal? (list k t) (list k2 t2))

@@ -1,8 +1,8 @@
--- `rings::same` meets its promise: capacity, head or length differ, or the comparison of the runs decides, a law for each.
+-- `rings::same` meets its promise: the lengths differ, or the comparison of the runs decides, a law for each answer.
 use borrow.Author.Needs.{needs}
 use Rattle.table.specs.Does.{does2}
 use Rattle.table.proofs.Laws.Valid.{state}
-use Rattle.table.proofs.Laws.Equal.{other-done, same-done, unlike-done}
+use Rattle.table.proofs.Laws.Equal.{longer-done, same-done, differ-done}
 use Rattle.pairs.proofs.ToldRings.{refusals, shown}
 use Rattle.pairs.proofs.rings.same.Statement.{statement}
 use Rattle.pairs.proofs.rings.same.Tie as tie
@@ -19,13 +19,9 @@ same-spec =
     (λ c κs. search needs)
     (λ c. search refusals depth 9)
     (λ c κs. search needs)
-    (λ c. search (other-done, shown) depth 9)
-    (λ c κs. search needs)
-    (λ c. search (other-done, shown) depth 9)
-    (λ c κs. search needs)
-    (λ c. search (other-done, shown) depth 9)
+    (λ c. search (longer-done, shown) depth 9)
     (λ c κs. omega state)
     (λ c κs. search needs)
     (λ c. search (same-done, shown) depth 9)
     (λ c κs. search needs)
-    (λ c. search (unlike-done, shown) depth 9))
+    (λ c. search (differ-done, shown) depth 9))

@@ -1,9 +1,8 @@
--- `vectors::equal` meets its promise: the comparison of the two parts decides, a law for each answer.
+-- `vectors::equal` meets its promise: the lengths differ, or the comparison of the first slots decides, a law for each answer.
 use borrow.Author.Needs.{needs}
-use lib.ListN.{length-take}
 use Rattle.table.specs.Does.{does2}
 use Rattle.table.proofs.Laws.Valid.{state}
-use Rattle.table.proofs.Laws.Equal.{equal-done, unequal-done}
+use Rattle.table.proofs.Laws.Equal.{longer-done, same-done, differ-done}
 use Rattle.pairs.proofs.ToldVectors.{refusals, shown}
 use Rattle.pairs.proofs.vectors.equal.Statement.{statement}
 use Rattle.pairs.proofs.vectors.equal.Tie as tie
@@ -19,10 +18,10 @@ equal-spec =
     (λ c κs. search needs)
     (λ c κs. search needs)
     (λ c. search refusals depth 9)
-    (λ c. simp length-take (omega state))
-    (λ c. simp length-take (omega state))
     (λ c κs. search needs)
+    (λ c. search (longer-done, shown) depth 9)
+    (λ c κs. omega state)
     (λ c κs. search needs)
-    (λ c. search (equal-done, shown))
+    (λ c. search (same-done, shown) depth 9)
     (λ c κs. search needs)
-    (λ c. search (unequal-done, shown)))
+    (λ c. search (differ-done, shown) depth 9))

@@ -17,6 +17,7 @@ use Rattle.tumbrelice.specs.HeardText.{HearsRecord, heardTold}
 use Rattle.tumbrelice.proofs.rings as rings
 use Rattle.tumbrelice.proofs.vectors as vectors
 use Rattle.tumbrelice.proofs.two as two
+use Rattle.tumbrelice.proofs.compare as compare
 use Rattle.tumbrelice.proofs.records as records
 use Rattle.tumbrelice.proofs.walks as walks
 
@@ -112,6 +113,15 @@ module _ (κs : Lfts 4) where
 
   pub tum-ring-clone-once : Twice two.tum_ring_clone.ended κs (two.tum_ring_clone.Reads.Learnt κs) (λ r e r′ e′. (r ≡ r′) × (ringOf (now (e .1 .1 .1 .0)) (now (e .1 .1 .0)) ≡ ringOf (now (e′ .1 .1 .1 .0)) (now (e′ .1 .1 .0))))
   tum-ring-clone-once a r r′ e e′ p q = let all = one2 r r′ _ _ _ _ p q in (all .0, all .2)
+
+  pub tum-ring-same-once : Twice compare.tum_ring_same.ended κs (compare.tum_ring_same.Reads.Learnt κs) (λ r e r′ e′. r ≡ r′)
+  tum-ring-same-once a r r′ e e′ p q = one2 r r′ _ _ _ _ p q .0
+
+  pub tum-vector-equal-once : Twice compare.tum_vector_equal.ended κs (compare.tum_vector_equal.Reads.Learnt κs) (λ r e r′ e′. r ≡ r′)
+  tum-vector-equal-once a r r′ e e′ p q = one2 r r′ _ _ _ _ p q .0
+
+  pub tum-ring-same-as-vector-once : Twice compare.tum_ring_same_as_vector.ended κs (compare.tum_ring_same_as_vector.Reads.Learnt κs) (λ r e r′ e′. r ≡ r′)
+  tum-ring-same-as-vector-once a r r′ e e′ p q = one2 r r′ _ _ _ _ p q .0
 
 module _ (κs : Lfts 5) where
   pub tum-record-read-once : Twice records.tum_record_read.ended κs (records.tum_record_read.Reads.Learnt κs) (λ r e r′ e′. (r ≡ r′) × (vectorOf (now (e .1 .1 .0)) (now (e .1 .0)) ≡ vectorOf (now (e′ .1 .1 .0)) (now (e′ .1 .0))) × (vectorOf (now (e .1 .1 .1 .1 .0)) (now (e .1 .1 .1 .0)) ≡ vectorOf (now (e′ .1 .1 .1 .1 .0)) (now (e′ .1 .1 .1 .0))))

@@ -6,7 +6,7 @@ use denote.Ref.{now}
 use denote.Triple.Clauses.{AtExit}
 use borrow.Fn.World.{ArgsD, ResD}
 use Rattle.slots.specs.Layout.{ring, vector}
-use Rattle.table.specs.Calls.{push, pushFront, pop, popFront, insert, remove, swapRemove, truncate, resize, clear, extend, look, read, stepFront, append, clone}
+use Rattle.table.specs.Calls.{push, pushFront, pop, popFront, insert, remove, swapRemove, truncate, resize, clear, extend, look, read, stepFront, append, clone, same}
 use Rattle.table.specs.World.{World, on, onTwo, calledTwo, Ours}
 use Rattle.table.proofs.Laws.Named.{Is, Are, ours-on, ours-on-two, ours-called-two}
 use Rattle.record.specs.Recorded.{recording}
@@ -15,6 +15,7 @@ use Rattle.tumbrelice.specs.Heard.{heardAt, heard, heard2, ringOf, vecto
 use Rattle.tumbrelice.proofs.rings as rings
 use Rattle.tumbrelice.proofs.vectors as vectors
 use Rattle.tumbrelice.proofs.two as two
+use Rattle.tumbrelice.proofs.compare as compare
 use Rattle.tumbrelice.proofs.records as records
 use Rattle.tumbrelice.proofs.walks as walks
 
@@ -104,6 +105,21 @@ module _ (w : World) (i j : ℕ) (κs : Lfts 4) where
       → Are w i j ring ring (ringOf (now (a .1 .0)) (now (a .0))) (ringOf (now (a .1 .1 .1 .0)) (now (a .1 .1 .0))) → two.tum_ring_clone.Reads.Learnt κs a r e
       → Ours w (onTwo i j clone (heard2 r (ringOf (now (a .1 .0)) (now (a .0))) (ringOf (now (e .1 .1 .1 .0)) (now (e .1 .1 .0)))))
   tum-ring-clone-ours a r e are learnt = ours-on-two w i j _ _ _ _ _ _ refl are (learnt .row)
+
+  pub tum-ring-same-ours : (a : ArgsD compare.tum_ring_same.signature κs) (r : ResD compare.tum_ring_same.signature κs) (e : AtExit compare.tum_ring_same.ended κs)
+      → Are w i j ring ring (ringOf (now (a .1 .0)) (now (a .0))) (ringOf (now (a .1 .1 .1 .0)) (now (a .1 .1 .0))) → compare.tum_ring_same.Reads.Learnt κs a r e
+      → Ours w (onTwo i j same (heard2 r (ringOf (now (a .1 .0)) (now (a .0))) (ringOf (now (a .1 .1 .1 .0)) (now (a .1 .1 .0)))))
+  tum-ring-same-ours a r e are learnt = ours-on-two w i j _ _ _ _ _ _ refl are (learnt .row)
+
+  pub tum-vector-equal-ours : (a : ArgsD compare.tum_vector_equal.signature κs) (r : ResD compare.tum_vector_equal.signature κs) (e : AtExit compare.tum_vector_equal.ended κs)
+      → Are w i j vector vector (vectorOf (now (a .1 .0)) (now (a .0))) (vectorOf (now (a .1 .1 .1 .0)) (now (a .1 .1 .0))) → compare.tum_vector_equal.Reads.Learnt κs a r e
+      → Ours w (onTwo i j same (heard2 r (vectorOf (now (a .1 .0)) (now (a .0))) (vectorOf (now (a .1 .1 .1 .0)) (now (a .1 .1 .0)))))
+  tum-vector-equal-ours a r e are learnt = ours-on-two w i j _ _ _ _ _ _ refl are (learnt .row)
+
+  pub tum-ring-same-as-vector-ours : (a : ArgsD compare.tum_ring_same_as_vector.signature κs) (r : ResD compare.tum_ring_same_as_vector.signature κs) (e : AtExit compare.tum_ring_same_as_vector.ended κs)
+      → Are w i j ring vector (ringOf (now (a .1 .0)) (now (a .0))) (vectorOf (now (a .1 .1 .1 .0)) (now (a .1 .1 .0))) → compare.tum_ring_same_as_vector.Reads.Learnt κs a r e
+      → Ours w (onTwo i j same (heard2 r (ringOf (now (a .1 .0)) (now (a .0))) (vectorOf (now (a .1 .1 .1 .0)) (now (a .1 .1 .0)))))
+  tum-ring-same-as-vector-ours a r e are learnt = ours-on-two w i j _ _ _ _ _ _ refl are (learnt .row)
 
 module _ (w : World) (i j : ℕ) (κs : Lfts 5) where
   pub tum-record-read-ours : (a : ArgsD records.tum_record_read.signature κs) (r : ResD records.tum_record_read.signature κs) (e : AtExit records.tum_record_read.ended κs)

@@ -1,12 +1,12 @@
 -- A word made of an answer says that answer, every answer fits one, and what is heard of a call is what is seen of it.
 use mathlib.Core.Path.{_≡_, refl, sym, ap, _∙_}
-use mathlib.Core.Bool.{true}
+use mathlib.Core.Bool.{true, false}
 use mathlib.Core.List.{List}
 use Prim.Native.Nat.{ℕ, _+_, _*_, _/_, _%_, _<_}
 use native.Mathlib.Omega.{arith}
 use lib.Arith.{digits-div, digits-mod}
 use Rattle.slots.specs.Layout.{Kind, ring, vector}
-use Rattle.table.specs.Tray.{Tray, list, Cursor, nowhere}
+use Rattle.table.specs.Tray.{Tray, list, invalid, Cursor, nowhere}
 use Rattle.table.specs.Calls.{Call, Look, look, Call2, clone, has}
 use Rattle.table.specs.Table.{after, after2}
 use Rattle.table.specs.Does.{Outcome, refused, relay, done, does, rowOf, refusalsOf, Outcome2, refused2, done2, does2, rowOf2, refusalsOf2}
@@ -52,12 +52,19 @@ module _ (call : Call) (v : Vector) (s z : List ℕ) (a : vectorAnswer.Answer) (
   pub vector-moves-fit : has call vector ≡ true → a .moves < 4096
   vector-moves-fit of = omega (arith, few-moves vector call (vectors.tray v s) of, ap (λ (o : Outcome). o .moves) (e .row))
 
+module _ (k k2 : Kind) (call : Call2) (t t2 : Tray) (o : Outcome2) (e : o ≡ does2 k k2 call t t2) where
+  pub number-fits2 : o .number < 16
+  number-fits2 = omega (arith, few-numbers2 k k2 call t t2, ap (λ (o : Outcome2). o .number) e)
+
+  pub moves-fit2 : o .moves < 4096
+  moves-fit2 = omega (arith, moves-of2 k k2 call t t2, ap (λ (o : Outcome2). o .moves) e)
+
 module _ (call : Call2) (r t : Ring) (s z s′ z′ : List ℕ) (a : Both) (e : pairs.Meets call r s t z a s′ z′) where
   pub two-number-fits : a .number < 16
-  two-number-fits = omega (arith, few-numbers2 ring ring call (rings.tray r s) (rings.tray t z), ap (λ (o : Outcome2). o .number) (e .row))
+  two-number-fits = number-fits2 ring ring call _ _ _ (e .row)
 
   pub two-moves-fit : a .moves < 4096
-  two-moves-fit = omega (arith, moves-of2 ring ring call (rings.tray r s) (rings.tray t z), ap (λ (o : Outcome2). o .moves) (e .row))
+  two-moves-fit = moves-fit2 ring ring call _ _ _ (e .row)
 
 pub ruleset ring-fits = (ring-number-fits, ring-moves-fit)
 
@@ -125,6 +132,12 @@ rings-hear call st ot st′ ot′ s z s′ z′ r t a word er et e es eo w =
     let e′ : pairs.Meets call (ringIn st) s (ringIn ot) z a s′ z′ = rw (er, et) at e in
     rw (es, eo) (record { row = heard2-is _ _ _ word (rings.tray (a .first) s′) (rings.tray (a .second) z′) _ w (e′ .row); free = w .free })
 
+-- a container whose list and head stay is as it was
+pub unmoved : (k : Kind) (t : Tray) → invalid k t ≡ false → Homed k t → relay k t (list k t) (t .head) ≡ t
+unmoved k t ok home =
+    let as-before : relay k t (list k t) (t .head) ≡ record { head = t .head; len = t .len; slots = t .slots } = cc (home, many k t, as-it-was k t ok) in
+    as-before
+
 -- clone leaves the container that it copies
 clone-still : (k k2 : Kind) (t t2 : Tray) → Homed k t → does2 k k2 clone t t2 .first ≡ t
 unfolding does2
@@ -132,7 +145,7 @@ clone-still k k2 t t2 home =
     either (λ (o : Outcome2). o .first ≡ t) (refused2 t t2 (rowOf2 k k2 clone t t2 .given)) (refusalsOf2 k k2 clone t t2)
     (done2 k k2 t t2 (after2 clone (list k t) (list k2 t2)) (rowOf2 k k2 clone t t2))
     (λ r. refl)
-    (λ clear. let same : relay k t (list k t) (t .head) ≡ record { head = t .head; len = t .len; slots = t .slots } = cc (home, many k t, as-it-was k t (clear .0)) in same)
+    (λ clear. unmoved k t (clear .0) home)
 
 pub rings-cloned : (st ot ot′ s z z′ : List ℕ) (r t : Ring) (a : Both) (word : ℕ) → r ≡ ringIn st → t ≡ ringIn ot
     → pairs.Meets clone r s t z a s z′ → ot′ ≡ ringOut (a .second) → Worded (a .number) (a .value) (a .moves) word

@@ -2,7 +2,8 @@
 // word, packed by what can occur: the value in the low 32 bits, 16 bits that are 0, the moves in the next 12, the number in the high 4.
 pub mod rings; // rings.rt: the calls on a ring
 pub mod vectors; // vectors.rt: the calls on a vector
-pub mod two; // two.rt: the calls on two rings
+pub mod two; // two.rt: the calls that change two rings
+pub mod compare; // compare.rt: whether two containers hold the same list
 pub mod walks; // walks.rt: a cursor over a ring
 pub mod records; // records.rt: a record of comma-separated text
 

@@ -1,4 +1,4 @@
-// The calls on two rings, the one named first and T.
+// The calls that change two rings, the one named first and T.
 use super::ring_in;
 use super::ring_out;
 use super::word;

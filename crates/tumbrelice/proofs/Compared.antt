@@ -1,0 +1,91 @@
+-- What is heard of a comparison is what is seen of it, every answer fits a word, and both containers are as they were, so a caller keeps the states that
+-- it gave.
+use mathlib.Core.Path.{_≡_, refl, sym, ap, _∙_}
+use mathlib.Core.List.{List}
+use Prim.Native.Nat.{ℕ, _<_}
+use Rattle.slots.specs.Layout.{Kind, ring, vector}
+use Rattle.table.specs.Tray.{Tray, list, nowhere}
+use Rattle.table.specs.Calls.{same}
+use Rattle.table.specs.Table.{after2}
+use Rattle.table.specs.Does.{Outcome2, refused2, done2, does2, rowOf2, refusalsOf2}
+use Rattle.table.proofs.Laws.Refusals.{either}
+use Rattle.table.proofs.Laws.Done.{Homed}
+use Rattle.ring.specs.declared.Ring.{Ring}
+use Rattle.vector.specs.declared.Vector.{Vector}
+use Rattle.pairs.specs.declared.rings.Both as of-rings
+use Rattle.pairs.specs.declared.vectors.Both as of-vectors
+use Rattle.pairs.specs.declared.mixed.Both as of-mixed
+use Rattle.pairs.specs.Rings as rings
+use Rattle.pairs.specs.Vectors as vectors
+use Rattle.pairs.specs.Mixed as mixed
+use Rattle.tumbrelice.specs.Heard.{Worded, Hears2, ringIn, vectorIn, ringOf, vectorOf}
+use Rattle.tumbrelice.proofs.Words.{number-fits2, moves-fit2, heard2-is, unmoved}
+
+-- a comparison leaves both
+first-still : (k k2 : Kind) (t t2 : Tray) → Homed k t → does2 k k2 same t t2 .first ≡ t
+unfolding does2
+first-still k k2 t t2 home =
+    either (λ (o : Outcome2). o .first ≡ t) (refused2 t t2 (rowOf2 k k2 same t t2 .given)) (refusalsOf2 k k2 same t t2)
+    (done2 k k2 t t2 (after2 same (list k t) (list k2 t2)) (rowOf2 k k2 same t t2))
+    (λ r. refl)
+    (λ clear. unmoved k t (clear .0) home)
+
+second-still : (k k2 : Kind) (t t2 : Tray) → Homed k2 t2 → does2 k k2 same t t2 .second ≡ t2
+unfolding does2
+second-still k k2 t t2 home2 =
+    either (λ (o : Outcome2). o .second ≡ t2) (refused2 t t2 (rowOf2 k k2 same t t2 .given)) (refusalsOf2 k k2 same t t2)
+    (done2 k k2 t t2 (after2 same (list k t) (list k2 t2)) (rowOf2 k k2 same t t2))
+    (λ r. refl)
+    (λ clear. unmoved k2 t2 (clear .1 .0) home2)
+
+-- THE RULE: o is what was seen of the call, and t and t2 what the caller gave and keeps
+compared : (k k2 : Kind) (t t2 : Tray) (o : Outcome2) (word : ℕ) → Homed k t → Homed k2 t2 → o .cursor ≡ nowhere → o ≡ does2 k k2 same t t2
+    → Worded (o .number) (o .value) (o .moves) word → Hears2 k k2 same t t2 word t t2
+compared k k2 t t2 o word home home2 none e w =
+    let first : o .first ≡ t = ap (λ (o : Outcome2). o .first) e ∙ first-still k k2 t t2 home in
+    let second : o .second ≡ t2 = ap (λ (o : Outcome2). o .second) e ∙ second-still k k2 t t2 home2 in
+    let whole : o ≡ record { number = o .number; value = o .value; moves = o .moves; first = o .first; second = o .second; cursor = o .cursor } = refl in
+    record { row = heard2-is (o .number) (o .value) (o .moves) word t t2 _ w (cc); free = w .free }
+
+-- and for each pair of kinds, with the states as numbers
+module _ (r t : Ring) (s z : List ℕ) (a : of-rings.Both) (e : rings.Meets same r s t z a s z) where
+  pub rings-number : a .number < 16
+  rings-number = number-fits2 ring ring same _ _ _ (e .row)
+
+  pub rings-moves : a .moves < 4096
+  rings-moves = moves-fit2 ring ring same _ _ _ (e .row)
+
+pub rings-compared : (st ot s z : List ℕ) (r t : Ring) (a : of-rings.Both) (word : ℕ) → r ≡ ringIn st → t ≡ ringIn ot → rings.Meets same r s t z a s z
+    → Worded (a .number) (a .value) (a .moves) word → Hears2 ring ring same (ringOf st s) (ringOf ot z) word (ringOf st s) (ringOf ot z)
+rings-compared st ot s z r t a word er et e w =
+    let e′ : rings.Meets same (ringIn st) s (ringIn ot) z a s z = rw (er, et) at e in
+    compared ring ring _ _ (rings.seen2 a s z) word refl refl refl (e′ .row) w
+
+module _ (v t : Vector) (s z : List ℕ) (a : of-vectors.Both) (e : vectors.Meets same v s t z a s z) where
+  pub vectors-number : a .number < 16
+  vectors-number = number-fits2 vector vector same _ _ _ (e .row)
+
+  pub vectors-moves : a .moves < 4096
+  vectors-moves = moves-fit2 vector vector same _ _ _ (e .row)
+
+pub vectors-compared : (n m : ℕ) (s z : List ℕ) (v t : Vector) (a : of-vectors.Both) (word : ℕ) → v ≡ vectorIn n → t ≡ vectorIn m → vectors.Meets same v s t z a s z
+    → Worded (a .number) (a .value) (a .moves) word → Hears2 vector vector same (vectorOf n s) (vectorOf m z) word (vectorOf n s) (vectorOf m z)
+vectors-compared n m s z v t a word ev et e w =
+    let e′ : vectors.Meets same (vectorIn n) s (vectorIn m) z a s z = rw (ev, et) at e in
+    compared vector vector _ _ (vectors.seen2 a s z) word refl refl refl (e′ .row) w
+
+module _ (r : Ring) (t : Vector) (s z : List ℕ) (a : of-mixed.Both) (e : mixed.Meets same r s t z a s z) where
+  pub mixed-number : a .number < 16
+  mixed-number = number-fits2 ring vector same _ _ _ (e .row)
+
+  pub mixed-moves : a .moves < 4096
+  mixed-moves = moves-fit2 ring vector same _ _ _ (e .row)
+
+pub mixed-compared : (st : List ℕ) (m : ℕ) (s z : List ℕ) (r : Ring) (t : Vector) (a : of-mixed.Both) (word : ℕ) → r ≡ ringIn st → t ≡ vectorIn m
+    → mixed.Meets same r s t z a s z → Worded (a .number) (a .value) (a .moves) word
+    → Hears2 ring vector same (ringOf st s) (vectorOf m z) word (ringOf st s) (vectorOf m z)
+mixed-compared st m s z r t a word er et e w =
+    let e′ : mixed.Meets same (ringIn st) s (vectorIn m) z a s z = rw (er, et) at e in
+    compared ring vector _ _ (mixed.seen2 a s z) word refl refl refl (e′ .row) w
+
+pub ruleset fits = (rings-number, rings-moves, vectors-number, vectors-moves, mixed-number, mixed-moves)

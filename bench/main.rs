@@ -20,7 +20,6 @@ use work::Came;
 static PAGES: place::Pages = place::Pages;
 
 const CAPS: [usize; 3] = [16, 256, 4096];
-const MOST: [f64; 3] = [1.1, 1.0, 1.0]; // the ratio to reach at each
 const BATCH: f64 = 40_000.0; // nanoseconds
 const PASSES: usize = 5;
 
@@ -74,6 +73,7 @@ fn measure(row: &Row, at: usize, rounds: usize, times: &mut Times) {
 struct Found {
     name: &'static str,
     why: &'static str,
+    most: [f64; 3],
     ratios: Vec<f64>,
     spans: Vec<String>,
 }
@@ -83,6 +83,7 @@ impl Found {
         Found {
             name: row.name,
             why: row.why,
+            most: row.most,
             ratios: times.iter_mut().map(|t| median(&mut t.ratio)).collect(),
             spans: times.iter_mut().map(|t| format!("{:.1} / {:.1}", median(&mut t.spent[OURS]), median(&mut t.spent[THEIRS]))).collect(),
         }
@@ -93,16 +94,16 @@ impl Found {
         format!("| {} | {} | {} |", self.name, ratios.join(" | "), self.spans.join(" | "))
     }
 
+    // The capacities at which it is above the ratio to reach.
+    fn over(&self) -> Vec<String> {
+        (0..3).filter(|&c| self.ratios[c] > self.most[c] + 0.005).map(|c| CAPS[c].to_string()).collect()
+    }
+
     // What falls short, if it does.
     fn short(&self) -> Option<String> {
-        let over = over(&self.ratios);
+        let over = self.over();
         (!over.is_empty()).then(|| format!("| {} | {} | {} |", self.name, over.join(", "), self.why))
     }
-}
-
-// The capacities at which a row is above the ratio to reach.
-fn over(ratios: &[f64]) -> Vec<String> {
-    (0..3).filter(|&c| ratios[c] > MOST[c] + 0.005).map(|c| CAPS[c].to_string()).collect()
 }
 
 fn said(name: &str) -> String {

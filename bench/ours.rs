@@ -18,6 +18,9 @@ extern "C" {
     fn tum_ring_resize(slots: *mut u32, cap: usize, state: *mut State, k: usize, x: u32) -> Word;
     fn tum_ring_append(slots: *mut u32, cap: usize, state: *mut State, theirs: *mut u32, room: usize, other: *mut State) -> Word;
     fn tum_ring_clone(slots: *const u32, cap: usize, state: *const State, theirs: *mut u32, room: usize, other: *mut State) -> Word;
+    fn tum_ring_same(slots: *const u32, cap: usize, state: *const State, theirs: *const u32, room: usize, other: *const State) -> Word;
+    fn tum_ring_same_as_vector(slots: *const u32, cap: usize, state: *const State, theirs: *const u32, room: usize, other: *const usize) -> Word;
+    fn tum_vector_equal(slots: *const u32, cap: usize, len: *const usize, theirs: *const u32, room: usize, other: *const usize) -> Word;
     fn tum_ring_step_front(slots: *const u32, cap: usize, state: *const State, cursor: *mut [usize; 2]) -> Word;
     fn tum_vector_push(slots: *mut u32, cap: usize, len: *mut usize, x: u32) -> Word;
     fn tum_vector_pop(slots: *mut u32, cap: usize, len: *mut usize) -> Word;
@@ -31,7 +34,7 @@ extern "C" {
 
 static mut LENT: [Page; 2] = [const { Page::of(0) }; 2];
 static mut STATE: [Line<State>; 2] = [const { Line([0; 2]) }; 2];
-static mut LEN: Line<usize> = Line(0);
+static mut LEN: [Line<usize>; 2] = [const { Line(0) }; 2];
 
 #[inline(always)]
 fn done(w: Word) -> u64 {
@@ -49,6 +52,19 @@ pub struct Ring<const C: usize, const WHICH: usize>;
 
 #[derive(Clone, Copy)]
 pub struct Rings<const C: usize>;
+
+// Two rings of one list with heads of their own; two that differ in the last entry; a ring and a vector; two vectors.
+#[derive(Clone, Copy)]
+pub struct Turned<const C: usize>;
+
+#[derive(Clone, Copy)]
+pub struct Nearly<const C: usize>;
+
+#[derive(Clone, Copy)]
+pub struct Mixed<const C: usize>;
+
+#[derive(Clone, Copy)]
+pub struct Vectors<const C: usize>;
 
 #[derive(Clone, Copy)]
 pub struct Vector<const C: usize>;
@@ -72,7 +88,7 @@ macro_rules! of_pair {
 
 macro_rules! of_vector {
     ($call:ident $(, $arg:expr)*) => {
-        unsafe { $call((&raw mut LENT[0].slots).cast(), C, &raw mut LEN.0 $(, $arg)*) }
+        unsafe { $call((&raw mut LENT[0].slots).cast(), C, &raw mut LEN[0].0 $(, $arg)*) }
     };
 }
 
@@ -166,9 +182,76 @@ impl<const C: usize> work::Pair for Rings<C> {
     }
 }
 
+// The second of two is on the other run of slots.
+macro_rules! of_two {
+    ($call:ident, $first:expr, $second:expr) => {
+        unsafe { entry($call((&raw const LENT[0].slots).cast(), C, &raw const $first, (&raw const LENT[1].slots).cast(), C, &raw const $second)) }
+    };
+}
+
+fn lay<const C: usize>(which: usize, n: usize) {
+    for k in 0..n {
+        unsafe { LENT[which].slots[k] = k as u32 };
+    }
+    unsafe { LEN[which].0 = n };
+}
+
+impl<const C: usize> work::Alike for Turned<C> {
+    fn make(n: usize) -> Self {
+        let _: Ring<C, 1> = work::twice_turned::<Ring<C, 0>, _>(C, n);
+        Turned
+    }
+
+    #[inline(always)]
+    fn same(self) -> Option<u32> {
+        of_two!(tum_ring_same, STATE[0].0, STATE[1].0)
+    }
+}
+
+impl<const C: usize> work::Alike for Nearly<C> {
+    fn make(n: usize) -> Self {
+        use work::Ring as _;
+        let r: Ring<C, 1> = work::twice_turned::<Ring<C, 0>, _>(C, n);
+        r.pop_back();
+        r.push_back(u32::MAX);
+        Nearly
+    }
+
+    #[inline(always)]
+    fn same(self) -> Option<u32> {
+        of_two!(tum_ring_same, STATE[0].0, STATE[1].0)
+    }
+}
+
+impl<const C: usize> work::Alike for Mixed<C> {
+    fn make(n: usize) -> Self {
+        let _: Ring<C, 0> = work::wrapped(C, n);
+        lay::<C>(1, n);
+        Mixed
+    }
+
+    #[inline(always)]
+    fn same(self) -> Option<u32> {
+        of_two!(tum_ring_same_as_vector, STATE[0].0, LEN[1].0)
+    }
+}
+
+impl<const C: usize> work::Alike for Vectors<C> {
+    fn make(n: usize) -> Self {
+        lay::<C>(0, n);
+        lay::<C>(1, n);
+        Vectors
+    }
+
+    #[inline(always)]
+    fn same(self) -> Option<u32> {
+        of_two!(tum_vector_equal, LEN[0].0, LEN[1].0)
+    }
+}
+
 impl<const C: usize> work::Vector for Vector<C> {
     fn make() -> Self {
-        unsafe { LEN.0 = 0 };
+        unsafe { LEN[0].0 = 0 };
         Vector
     }
 
@@ -215,6 +298,6 @@ impl<const C: usize> work::Vector for Vector<C> {
     // As `new` makes it: no slot is touched.
     #[inline(always)]
     fn anew(self) {
-        unsafe { LEN.0 = 0 };
+        unsafe { LEN[0].0 = 0 };
     }
 }

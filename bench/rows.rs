@@ -10,15 +10,23 @@ pub type Side = Box<dyn FnMut(usize) -> Came>;
 pub struct Row {
     pub name: &'static str,
     pub why: &'static str, // what keeps it above the ratio, where it is
+    pub most: [f64; 3], // the ratio to reach at each capacity
     pub sides: [fn() -> [Side; 2]; 3], // at each capacity: ours, then Rust's
 }
+
+pub const MOST: [f64; 3] = [1.1, 1.0, 1.0];
+pub const MOST_SAME: [f64; 3] = [f64::INFINITY, 1.2, 1.2]; // of a comparison: none is set at 16
 
 // The same work on each side, at each capacity, on a container that is three quarters full.
 macro_rules! row {
     ($name:literal, $why:expr, $theirs:ident, $kind:ident, $($rest:tt)*) => {
+        row!(MOST, $name, $why, $theirs, $kind, $($rest)*)
+    };
+    ($most:ident, $name:literal, $why:expr, $theirs:ident, $kind:ident, $($rest:tt)*) => {
         Row {
             name: $name,
             why: $why,
+            most: $most,
             sides: [
                 || [side!(ours, $kind, 16, $($rest)*), side!($theirs, $kind, 16, $($rest)*)],
                 || [side!(ours, $kind, 256, $($rest)*), side!($theirs, $kind, 256, $($rest)*)],
@@ -50,6 +58,8 @@ const SWAP: &str = "the one test before the work: two comparisons more in each c
 const EXTEND: &str = "beside a block move of a few entries each step counts: the state is written back after it, so three registers are saved before it and restored";
 const CUT: &str = "paper 01 has every freed slot hold 0: one memset more, where Rust's truncate stores one word; at 16 and 256 also the registers that are saved before the block move and restored";
 
+const SAME: &str = "Rust's `==` is the C library's memcmp, which loads 32 bytes at once where the processor can. An archive for plain x86-64 loads 16, and a comparison is bound by its loads: twice as many (decision 39, bench/TRIED.md)";
+
 pub fn rows() -> Vec<Row> {
     vec![
         row!("push_back + pop_front", ENDS, theirs, Ring, [0], wrapped, |r, n, spots, k| ring_queue(r, k)),
@@ -59,7 +69,11 @@ pub fn rows() -> Vec<Row> {
         row!("clear + resize", REFILL, theirs, Ring, [0], wrapped, |r, n, spots, k| ring_refill(r, n, k)),
         row!("append", APPEND, theirs, Rings, [], paired, |p, n, spots, k| pair_append(p, k)),
         row!("clone", CLONE, theirs, Rings, [], paired, |p, n, spots, k| pair_clone(p, k)),
+        row!(MOST_SAME, "sameness", SAME, theirs, Turned, [], twins, |a, n, spots, k| alike(a, k)),
+        row!(MOST_SAME, "sameness, last entry differs", SAME, theirs, Nearly, [], twins, |a, n, spots, k| alike(a, k)),
+        row!(MOST_SAME, "sameness with a vector", SAME, theirs, Mixed, [], twins, |a, n, spots, k| alike(a, k)),
         row!("walk by cursor", WALK, theirs, Ring, [0], wrapped, |r, n, spots, k| ring_walk(r, k)),
+        row!(MOST_SAME, "vector equality", SAME, theirs, Vectors, [], twins, |a, n, spots, k| alike(a, k)),
         row!("vector push + pop", STACK, theirs, Vector, [], counted, |v, n, spots, k| vector_stack(v, k)),
         row!("vector read", TEST, theirs, Vector, [], counted, |v, n, spots, k| vector_read(v, n, &spots, k)),
         row!("vector insert + remove", SHIFT, theirs, Vector, [], counted, |v, n, spots, k| vector_shift(v, n, &spots, k)),

@@ -58,6 +58,21 @@ pub fn deque_clone_to(d: &VecDeque<u32>, t: &mut VecDeque<u32>) {
 }
 
 #[inline(never)]
+pub fn deque_same(d: &VecDeque<u32>, t: &VecDeque<u32>) -> bool {
+    d == t
+}
+
+#[inline(never)]
+pub fn deque_same_as_vec(d: &VecDeque<u32>, t: &Vec<u32>) -> bool {
+    d == t
+}
+
+#[inline(never)]
+pub fn vec_equal(v: &Vec<u32>, t: &Vec<u32>) -> bool {
+    v == t
+}
+
+#[inline(never)]
 pub fn deque_step(it: &mut Iter<'_, u32>) -> Option<u32> {
     it.next().copied()
 }

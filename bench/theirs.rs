@@ -5,13 +5,25 @@ use std::collections::vec_deque::Iter;
 use std::collections::VecDeque;
 
 static mut DEQUE: [Line<VecDeque<u32>>; 2] = [const { Line(VecDeque::new()) }; 2];
-static mut VEC: Line<Vec<u32>> = Line(Vec::new());
+static mut VEC: [Line<Vec<u32>>; 2] = [const { Line(Vec::new()) }; 2];
 
 #[derive(Clone, Copy)]
 pub struct Ring<const C: usize, const WHICH: usize>;
 
 #[derive(Clone, Copy)]
 pub struct Rings<const C: usize>;
+
+#[derive(Clone, Copy)]
+pub struct Turned<const C: usize>;
+
+#[derive(Clone, Copy)]
+pub struct Nearly<const C: usize>;
+
+#[derive(Clone, Copy)]
+pub struct Mixed<const C: usize>;
+
+#[derive(Clone, Copy)]
+pub struct Vectors<const C: usize>;
 
 #[derive(Clone, Copy)]
 pub struct Vector<const C: usize>;
@@ -22,8 +34,18 @@ fn deque<const WHICH: usize>() -> &'static mut VecDeque<u32> {
 }
 
 #[inline(always)]
+fn vec_of<const WHICH: usize>() -> &'static mut Vec<u32> {
+    unsafe { &mut *(&raw mut VEC[WHICH].0) }
+}
+
+#[inline(always)]
 fn vec() -> &'static mut Vec<u32> {
-    unsafe { &mut *(&raw mut VEC.0) }
+    vec_of::<0>()
+}
+
+fn lay<const C: usize, const WHICH: usize>(n: usize) {
+    *vec_of::<WHICH>() = Vec::with_capacity(C);
+    vec_of::<WHICH>().extend(0..n as u32);
 }
 
 impl<const C: usize, const WHICH: usize> work::Ring for Ring<C, WHICH> {
@@ -118,6 +140,57 @@ impl<const C: usize> work::Pair for Rings<C> {
     fn clone_to(self) -> u64 {
         rust::deque_clone_to(deque::<1>(), deque::<0>());
         0
+    }
+}
+
+impl<const C: usize> work::Alike for Turned<C> {
+    fn make(n: usize) -> Self {
+        let _: Ring<C, 1> = work::twice_turned::<Ring<C, 0>, _>(C, n);
+        Turned
+    }
+
+    #[inline(always)]
+    fn same(self) -> Option<u32> {
+        Some(rust::deque_same(deque::<0>(), deque::<1>()) as u32)
+    }
+}
+
+impl<const C: usize> work::Alike for Nearly<C> {
+    fn make(n: usize) -> Self {
+        let _: Turned<C> = work::Alike::make(n);
+        *deque::<1>().back_mut().unwrap() = u32::MAX;
+        Nearly
+    }
+
+    #[inline(always)]
+    fn same(self) -> Option<u32> {
+        Some(rust::deque_same(deque::<0>(), deque::<1>()) as u32)
+    }
+}
+
+impl<const C: usize> work::Alike for Mixed<C> {
+    fn make(n: usize) -> Self {
+        let _: Ring<C, 0> = work::wrapped(C, n);
+        lay::<C, 1>(n);
+        Mixed
+    }
+
+    #[inline(always)]
+    fn same(self) -> Option<u32> {
+        Some(rust::deque_same_as_vec(deque::<0>(), vec_of::<1>()) as u32)
+    }
+}
+
+impl<const C: usize> work::Alike for Vectors<C> {
+    fn make(n: usize) -> Self {
+        lay::<C, 0>(n);
+        lay::<C, 1>(n);
+        Vectors
+    }
+
+    #[inline(always)]
+    fn same(self) -> Option<u32> {
+        Some(rust::vec_equal(vec_of::<0>(), vec_of::<1>()) as u32)
     }
 }
 

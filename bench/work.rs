@@ -68,6 +68,12 @@ pub trait Pair: Copy {
     fn clone_to(self) -> u64;
 }
 
+// Two containers that are compared: a yes is 1, a no 0.
+pub trait Alike: Copy {
+    fn make(n: usize) -> Self;
+    fn same(self) -> Option<u32>;
+}
+
 pub trait Vector: Copy {
     fn make() -> Self;
     fn push(self, x: u32) -> u64;
@@ -83,8 +89,13 @@ pub trait Vector: Copy {
 
 // A ring of n entries whose list runs on from the last slot to slot 0.
 pub fn wrapped<R: Ring>(cap: usize, n: usize) -> R {
+    turned(cap - n / 2, n)
+}
+
+// A ring of n entries that begins `by` slots further on.
+pub fn turned<R: Ring>(by: usize, n: usize) -> R {
     let r = R::make();
-    for _ in 0..cap - n / 2 {
+    for _ in 0..by {
         r.push_back(0);
         r.pop_front();
     }
@@ -92,6 +103,16 @@ pub fn wrapped<R: Ring>(cap: usize, n: usize) -> R {
         r.push_back(k as u32);
     }
     r
+}
+
+// Two rings of one list that run on to slot 0 at different places, so that three pairs of runs are compared.
+pub fn twice_turned<R: Ring, T: Ring>(cap: usize, n: usize) -> T {
+    let _: R = turned(cap - n / 2, n);
+    turned(cap - n / 3 - 1, n)
+}
+
+pub fn twins<A: Alike>(_cap: usize, n: usize) -> A {
+    A::make(n)
 }
 
 pub fn paired<P: Pair>(_cap: usize, n: usize) -> P {
@@ -176,6 +197,14 @@ pub fn pair_clone<P: Pair>(p: P, rounds: usize) -> Came {
     let mut came = Came::default();
     for _ in 0..rounds {
         came.did(p.clone_to());
+    }
+    came
+}
+
+pub fn alike<A: Alike>(a: A, rounds: usize) -> Came {
+    let mut came = Came::default();
+    for _ in 0..rounds {
+        came.got(a.same());
     }
     came
 }

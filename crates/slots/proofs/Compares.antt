@@ -46,6 +46,13 @@ tells-join false b l l2 r r2 long m m2 = tells-no _ _ (join-differs l l2 r r2 lo
 tells-join true true l l2 r r2 long m m2 = let e = m .yes refl in let e2 = m2 .yes refl in tells-yes _ _ (cc)
 tells-join true false l l2 r r2 long m m2 = tells-no _ _ (λ q. m2 .no refl (join-rest l l2 r r2 long q))
 
+-- as many of each list are as long; where they agree, so do fewer
+as-many : (k : ℕ) (s s2 : List ℕ) → k ≤ length s → k ≤ length s2 → length (take k s) ≡ length (take k s2)
+as-many k s s2 fits fits2 = length-take-le k s fits ∙ sym (length-take-le k s2 fits2)
+
+fewer : (n k : ℕ) (s s2 : List ℕ) → k ≤ n → take n s ≡ take n s2 → take k s ≡ take k s2
+fewer n k s s2 le e = sym (take-take k n s le) ∙ ap (take k) e ∙ take-take k n s2 le
+
 -- NUMBER BY NUMBER, n of each
 tells-number : (x y : ℕ) → Tells (eqb x y) (x ∷ []) (y ∷ [])
 tells-number x y = go (eqb x y) refl
@@ -73,34 +80,25 @@ pub block-more : (w at j : ℕ) (s s2 : List ℕ) (a : Bool) → at + w ≤ leng
 block-more w at j s s2 a fits fits2 lt m =
     let more : (l : List ℕ) → at + w ≤ length l → take (j + 1) (drop at l) ≡ take j (drop at l) ++ (getD l (at + j) 0 ∷ []) =
     λ l fits. rw add-one (take-suc (drop at l) j 0 (omega (arith, length-drop at l)) ∙ ap (λ x. take j (drop at l) ++ (x ∷ [])) (getD-drop at l j 0)) in
-    let long : length (take j (drop at s)) ≡ length (take j (drop at s2)) =
-    length-take-le j (drop at s) (omega (arith, length-drop at s)) ∙ sym (length-take-le j (drop at s2) (omega (arith, length-drop at s2))) in
+    let long = as-many j (drop at s) (drop at s2) (omega (arith, length-drop at s)) (omega (arith, length-drop at s2)) in
     rw (more s fits, more s2 fits2) (tells-join a _ _ _ _ _ long m (tells-number _ _))
 
 pub block-all : (w at j : ℕ) (s s2 : List ℕ) (a : Bool) → j ≤ w → w ≤ j → Tells a (take j (drop at s)) (take j (drop at s2)) → Tells a (take w (drop at s)) (take w (drop at s2))
 block-all w at j s s2 a le ge m = let q : j ≡ w = omega arith in rw q at m
 
--- The first n numbers by blocks: the last block ends where they do, whatever it shares with the k numbers that agree.
-module _ (n k : ℕ) (s s2 : List ℕ) (fits : n ≤ length s) (fits2 : n ≤ length s2) where
-  even : k ≤ n → length (take k s) ≡ length (take k s2)
-  even le = length-take-le k s (omega arith) ∙ sym (length-take-le k s2 (omega arith))
-
-  upto : k ≤ n → take n s ≡ take n s2 → take k s ≡ take k s2
-  upto le e = sym (take-take k n s le) ∙ ap (take k) e ∙ take-take k n s2 le
-
+-- the last w of the first n numbers, where the k before are known to agree, whatever both share
 last-block : (w n k : ℕ) (s s2 : List ℕ) → n ≤ length s → n ≤ length s2 → (b : Bool) → w ≤ n → n - w ≤ k → take k s ≡ take k s2
     → Tells b (take w (drop (n - w) s)) (take w (drop (n - w) s2)) → Tells b (take n s) (take n s2)
 last-block w n k s s2 fits fits2 b enough past e m =
     let last : ℕ = n - w in
-    let before : take last s ≡ take last s2 = sym (take-take last k s past) ∙ ap (take last) e ∙ take-take last k s2 past in
     let whole : n ≡ last + w = omega arith in
     let all : (l : List ℕ) → take n l ≡ take last l ++ take w (drop last l) = λ l. ap (λ i. take i l) whole ∙ take-add last w l in
-    rw (all s, all s2) (tells-join true b _ _ _ _ (even n last s s2 fits fits2 (omega arith)) (tells-yes _ _ before) m)
+    rw (all s, all s2) (tells-join true b _ _ _ _ (as-many last s s2 (omega arith) (omega arith)) (tells-yes _ _ (fewer k last s s2 past e)) m)
 
 -- up to eight, by two blocks of four
 pub short-two : (n : ℕ) (s s2 : List ℕ) (a b : Bool) → n ≤ length s → n ≤ length s2 → 4 ≤ n → n ≤ 8 → Tells a (take 4 (drop 0 s)) (take 4 (drop 0 s2))
     → Tells b (take 4 (drop (n - 4) s)) (take 4 (drop (n - 4) s2)) → Tells (a && b) (take n s) (take n s2)
-short-two n s s2 false b fits fits2 enough few m m2 = tells-no _ _ (λ e. m .no refl (upto n 4 s s2 fits fits2 enough e))
+short-two n s s2 false b fits fits2 enough few m m2 = tells-no _ _ (λ e. m .no refl (fewer n 4 s s2 enough e))
 short-two n s s2 true b fits fits2 enough few m m2 = last-block 4 n 4 s s2 fits fits2 b enough (omega arith) (m .yes refl) m2
 
 -- a vector's entries are its first slots
@@ -122,8 +120,8 @@ module _ (n : ℕ) (s s2 : List ℕ) (fits : n ≤ length s) (fits2 : n ≤ leng
     pub firsts-differ : a ≡ false → Tells false (entries itself n s) (entries itself n s2)
     firsts-differ f =
         firsts-short false (tells-no _ _ (λ e.
-        m .no f (join-rest (take k s) (take k s2) _ _ (even n k s s2 fits fits2 (omega arith))
-        (sym (take-add k 8 s) ∙ upto n (k + 8) s s2 fits fits2 (omega arith) e ∙ take-add k 8 s2))))
+        m .no f (join-rest (take k s) (take k s2) _ _ (as-many k s s2 (omega arith) (omega arith))
+        (sym (take-add k 8 s) ∙ fewer n (k + 8) s s2 (omega arith) e ∙ take-add k 8 s2))))
 
   -- the last block, and all before it
   pub firsts-last : (k : ℕ) (b : Bool) → 8 ≤ n → n - 8 ≤ k → take k s ≡ take k s2 → Tells b (take 8 (drop (n - 8) s)) (take 8 (drop (n - 8) s2))

@@ -1,6 +1,6 @@
 -- What is heard of a comparison is what is seen of it, every answer fits a word, and both containers are as they were, so a caller keeps the states that
 -- it gave.
-use mathlib.Core.Path.{_≡_, refl, sym, ap, _∙_}
+use mathlib.Core.Path.{_≡_, refl, ap, _∙_}
 use mathlib.Core.List.{List}
 use Prim.Native.Nat.{ℕ, _<_}
 use Rattle.slots.specs.Layout.{Kind, ring, vector}

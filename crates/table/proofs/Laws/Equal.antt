@@ -1,13 +1,12 @@
 -- Sameness, of any two kinds that have it: what the code's comparison tells is what `equalLists` says, and the answer leaves both as they were.
 use mathlib.Core.Path.{_≡_, refl, sym, _∙_, subst}
-use mathlib.Core.Bool.{Bool, true, false, cond, _&&_, true≢false, false≢true}
+use mathlib.Core.Bool.{Bool, true, false, cond, true≢false, false≢true}
 use mathlib.Core.List.{List, [], _∷_, List-discrete}
 use mathlib.Core.Logic.{_⊎_, inl, inr}
 use Prim.Native.Nat.{ℕ}
 use native.Mathlib.Decide.{ℕ-discrete}
 use borrow.Author.Tests.{eq-eqb, eqb-true}
 use lib.Dec.{eqb}
-use lib.ListN.{length}
 use Rattle.slots.specs.Layout.{Kind, place, entries}
 use Rattle.slots.specs.Compare.{Tells}
 use Rattle.slots.proofs.Compares.{tells-long}

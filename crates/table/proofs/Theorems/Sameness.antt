@@ -9,16 +9,16 @@ use native.Mathlib.Omega.{arith}
 use lib.ListN.{length}
 use Rattle.slots.specs.Layout.{Kind, ring}
 use Rattle.table.specs.Tray.{Tray, cap, list, invalid}
-use Rattle.table.specs.Calls.{same}
+use Rattle.table.specs.Calls.{clone, same}
 use Rattle.table.specs.Table.{equalLists}
 use Rattle.table.specs.Does.{Outcome2, relay, does2}
 use Rattle.table.proofs.Laws.Done.{many}
 use Rattle.table.proofs.Laws.Equal.{equal?}
 use Rattle.table.proofs.Laws.Keeps.{relay-list, head-in}
 use Rattle.table.proofs.Laws.Valid.{fit}
-use Rattle.table.proofs.Theorems.Refused.{two-settled}
+use Rattle.table.proofs.Theorems.Refused.{two-settled, two-clear}
 use Rattle.table.proofs.Theorems.Listed.{two-listed}
-use Rattle.table.proofs.Theorems.StaysValid.{Leaves, relay-valid}
+use Rattle.table.proofs.Theorems.StaysValid.{Leaves, relay-valid, first-stays-valid, second-stays-valid}
 
 -- a value that tells whether two lists are equal
 pub record Exactly (value : ℕ) (l l2 : List ℕ) : Type 0 where
@@ -108,3 +108,12 @@ module _ (on t : Tray) (h : ℕ) (ok : invalid ring t ≡ false) (small : cap on
 module _ (t : Tray) (h : ℕ) (ok : invalid ring t ≡ false) (inside : h ≤ cap t - 1) where
   pub turned-same : sameness ring ring t (laidOut t t h) ≡ 1
   turned-same = laid-out-same t t h ok (fit ring t ok .small) (fit ring t ok .fits) inside
+
+-- A COPY IS THE SAME: what clone leaves in T is the same as what it copied
+pub clone-same : (k k2 : Kind) (t t2 : Tray) (o : Outcome2) → o ≡ does2 k k2 clone t t2 → o .number ≡ 0 → sameness k k2 (o .first) (o .second) ≡ 1
+clone-same k k2 t t2 o promised done =
+    let clear = two-clear k k2 clone t t2 o promised done in
+    let ok = first-stays-valid k k2 clone t t2 o promised (clear .0) in
+    let ok2 = second-stays-valid k k2 clone t t2 o promised (clear .1 .0) in
+    let now = two-listed k k2 clone t t2 o promised done in
+    exact k k2 (o .first) (o .second) ok ok2 .equal (now .first .listed ∙ sym (now .second .listed))

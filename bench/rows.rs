@@ -58,7 +58,7 @@ const SWAP: &str = "the one test before the work: two comparisons more in each c
 const EXTEND: &str = "beside a block move of a few entries each step counts: the state is written back after it, so three registers are saved before it and restored";
 const CUT: &str = "paper 01 has every freed slot hold 0: one memset more, where Rust's truncate stores one word; at 16 and 256 also the registers that are saved before the block move and restored";
 
-const SAME: &str = "Rust's `==` is the C library's memcmp, which loads 32 bytes at once where the processor can. An archive for plain x86-64 loads 16, and a comparison is bound by its loads: twice as many (decision 39, bench/TRIED.md)";
+const SAME: &str = "Rust's `==` is the C library's memcmp, which has code for 32-byte registers where the processor has them; an archive for plain x86-64 has 16-byte ones, so twice as many loads. That is the likely reason and was not isolated (decision 39, bench/TRIED.md)";
 
 pub fn rows() -> Vec<Row> {
     vec![

@@ -155,7 +155,7 @@ impl Desk {
         let mut lists: [VecDeque<u32>; 2] = [if rules::is_making(q.act) { VecDeque::new() } else { self.first.list(Ring) }, other];
         let [list, other] = &mut lists;
         let value = lists::ring(q.act, q.a as usize, q.b as u32, list, other);
-        self.first.lay(Ring, before, rules::head_after(q), list.iter());
+        self.first.lay(Ring, before, rules::head_after(q, list.len() as u64), list.iter());
         if fills_second(q.act) {
             self.second.lay(Ring, q.second, 0, other.iter());
         }

@@ -32,12 +32,17 @@ impl Share {
         self.chosen.as_ref().map_or(true, |chosen| chosen[self.seen - 1])
     }
 
-    fn call(&mut self, pen: &mut Pen, code: u8, a: u64, b: u64) {
-        self.call_of(0, pen, code, a, b);
+    // Of a ring with another head than 0 that is empty afterwards: it was emptied, or it is refused. And with such an empty ring for T.
+    fn call(&mut self, pen: &mut Pen, op: &Op, a: u64, b: u64) {
+        let turned = op.kind == Ring && pen.desk.first.head != 0;
+        let second = ops::has_second(op.act) && ops::second_kind(op.act, op.kind) == Ring && pen.desk.second.head != 0 && pen.desk.second.len == 0;
+        let taken = pen.line(op.code, a, b);
+        let first = turned && pen.desk.first.len == 0;
+        self.log.push((taken, first as u8 + 2 * second as u8));
     }
 
-    fn call_of(&mut self, group: u8, pen: &mut Pen, code: u8, a: u64, b: u64) {
-        let taken = pen.line(code, a, b);
+    fn call_of(&mut self, group: u8, pen: &mut Pen, op: &Op, a: u64, b: u64) {
+        let taken = pen.line(op.code, a, b);
         self.log.push((taken, group));
     }
 }
@@ -108,7 +113,7 @@ fn alone(pen: &mut Pen, kind: Kind, share: &mut Share) {
                 for &b in b {
                     if share.takes() {
                         set_first(pen, s);
-                        share.call(pen, op.code, a, b);
+                        share.call(pen, op, a, b);
                     }
                 }
             }
@@ -124,7 +129,7 @@ fn parts(pen: &mut Pen, share: &mut Share) {
                 for &b in if op.act == Range { &at[..] } else { &[ENTRY] } {
                     if share.takes() {
                         set_first(pen, s);
-                        share.call(pen, op.code, a, b);
+                        share.call(pen, op, a, b);
                     }
                 }
             }
@@ -140,7 +145,7 @@ fn pairs(pen: &mut Pen, kind: Kind, acts: &[Act], share: &mut Share) {
                     if share.takes() {
                         set_first(pen, s);
                         set_second(pen, t);
-                        share.call(pen, op(kind, act).code, a, UNUSED);
+                        share.call(pen, op(kind, act), a, UNUSED);
                     }
                 }
             }
@@ -168,7 +173,7 @@ fn sameness(pen: &mut Pen, op: &Op, share: &mut Share) {
                         }
                         pen.set_second(t.head, t.len, &like);
                         let group = [by_entry, changed == t.cap, s.cap == t.cap, s.head == t.head].iter().fold(1, |sum, &bit| 2 * sum + bit as u8);
-                        share.call_of(group, pen, op.code, UNUSED, UNUSED);
+                        share.call_of(group, pen, op, UNUSED, UNUSED);
                     }
                 }
             }
@@ -189,7 +194,7 @@ fn cursors(pen: &mut Pen, kind: Kind, share: &mut Share) {
                     if share.takes() {
                         set_first(pen, s);
                         pen.set_cursor(front, back);
-                        share.call(pen, op(kind, act).code, a, UNUSED);
+                        share.call(pen, op(kind, act), a, UNUSED);
                     }
                 }
             }
@@ -206,7 +211,7 @@ fn from_iter(pen: &mut Pen, kind: Kind, share: &mut Share) {
                     set_first(pen, s);
                     set_second(pen, t);
                     pen.set_cursor(front, back);
-                    share.call(pen, op(kind, FromIter).code, UNUSED, UNUSED);
+                    share.call(pen, op(kind, FromIter), UNUSED, UNUSED);
                 }
             }
         }
@@ -219,7 +224,7 @@ fn stored(pen: &mut Pen, kind: Kind, share: &mut Share) {
         for a in (0..=need + 2).chain([40_001]).chain(WIDE) {
             if share.takes() {
                 set_first(pen, s);
-                share.call(pen, op(kind, Store).code, a, UNUSED);
+                share.call(pen, op(kind, Store), a, UNUSED);
             }
         }
     }
@@ -233,7 +238,7 @@ fn extend(pen: &mut Pen, share: &mut Share) {
                 if share.takes() {
                     set_first(pen, s);
                     set_second(pen, t);
-                    share.call(pen, op(Vector, Extend).code, a, UNUSED);
+                    share.call(pen, op(Vector, Extend), a, UNUSED);
                 }
             }
         }

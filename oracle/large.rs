@@ -27,17 +27,24 @@ fn one(pen: &mut Pen, rng: &mut Rng, op: &Op, slots: &[u32]) {
         _ => rng.pick(&at),
     };
     let b = if ops::has_entry(op.act) { rng.next() >> 32 } else { rng.pick(&at) };
-    pen.set_first(rng.pick(&[0, 1, cap / 2, cap - 3, cap - 2, cap - 1]), len, slots);
+    let head = rng.pick(&[0, 1, cap / 2, cap - 3, cap - 2, cap - 1]);
+    pen.set_first(home(rng, head, len), len, slots);
     if ops::has_second(op.act) || op.act == Extend {
         let room = rng.pick(&[cap, cap, len.min(cap), 3]);
         let filled = if op.act == Append { (free + rng.below(2)).min(room) } else { rng.below(8) / 7 };
-        pen.set_second(rng.pick(&[0, room / 2, room.saturating_sub(1)]), filled, &slots[..room as usize]);
+        let head = rng.pick(&[0, room / 2, room.saturating_sub(1)]);
+        pen.set_second(home(rng, head, filled), filled, &slots[..room as usize]);
     } else {
         pen.set_second(1, 1, &[4, 5, 6]);
     }
     let (front, back) = (rng.pick(&at), rng.pick(&at));
     pen.set_cursor(front.min(back), front.max(back).min(len + rng.below(9) / 8));
     pen.line(op.code, a, b);
+}
+
+// An empty ring's head is 0, but for one in four.
+fn home(rng: &mut Rng, head: u64, len: u64) -> u64 {
+    if len == 0 && !rng.one_in(4) { 0 } else { head }
 }
 
 // Two that hold one list, of every length up to 70 and about 256 and 4,096; then with one entry changed, up to 70 each in turn.
@@ -84,7 +91,7 @@ fn turned(pen: &mut Pen, rng: &mut Rng, op: &Op, len: u64, changed: Option<u64>)
 fn laid(rng: &mut Rng, kind: Kind, list: &[u32]) -> (u64, Vec<u32>) {
     let len = list.len() as u64;
     let cap = (len + rng.pick(&[0, 0, 1, 5, 40])).clamp(1, 4096);
-    let head = rng.below(cap);
+    let head = if len == 0 { 0 } else { rng.below(cap) };
     let mut slots: Vec<u32> = (0..cap).map(|_| rng.next() as u32).collect();
     for (j, x) in list.iter().enumerate() {
         slots[rules::slot(kind, State { cap, head, len }, j as u64)] = *x;

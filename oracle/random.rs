@@ -72,6 +72,11 @@ impl Random {
         }
     }
 
+    // An empty ring has head 0; most of the time it gets it, else hardly any call on one would be done.
+    fn home(&mut self, head: u64, len: u64) -> u64 {
+        if len == 0 && !self.rng.one_in(4) { 0 } else { head }
+    }
+
     fn entry(&mut self) -> u64 {
         let rng = &mut self.rng;
         match rng.below(60) {
@@ -87,7 +92,8 @@ impl Random {
     fn place_first(&mut self, pen: &mut Pen, large: bool) {
         let cap = self.capacity(large);
         pen.line(1, cap, self.rng.next());
-        pen.line(2, self.head(cap), self.length(cap));
+        let (head, len) = (self.head(cap), self.length(cap));
+        pen.line(2, self.home(head, len), len);
         for k in 0..cap {
             pen.line(3, k, self.rng.next() >> 32);
         }
@@ -97,7 +103,8 @@ impl Random {
         let large = large && self.rng.one_in(2);
         let cap = self.capacity(large);
         pen.line(4, cap, self.rng.next());
-        pen.line(5, self.head(cap), if self.rng.one_in(2) { 0 } else { self.length(cap) });
+        let (head, len) = (self.head(cap), if self.rng.one_in(2) { 0 } else { self.length(cap) });
+        pen.line(5, self.home(head, len), len);
         for k in 0..cap {
             pen.line(6, k, self.rng.next() >> 32);
         }
@@ -111,7 +118,7 @@ impl Random {
     fn copy_first(&mut self, pen: &mut Pen) {
         let Tray { mut slots, mut head, len } = pen.desk.first.clone();
         if slots.len() < 300 {
-            if head < slots.len() as u64 && self.rng.one_in(2) {
+            if len > 0 && head < slots.len() as u64 && self.rng.one_in(2) {
                 let by = self.rng.below(slots.len() as u64);
                 slots.rotate_right(by as usize);
                 head = (head + by) % slots.len() as u64;
@@ -140,12 +147,12 @@ impl Random {
             4..=5 => {
                 let cap = pen.desk.first.slots.len() as u64;
                 let (head, len) = (self.head(cap), self.length(cap));
-                pen.line(2, head, len);
+                pen.line(2, self.home(head, len), len);
             }
             6..=9 => {
                 let cap = pen.desk.second.slots.len() as u64;
                 let (head, len) = (self.head(cap), if self.rng.one_in(3) { self.length(cap) } else { 0 });
-                pen.line(5, head, len);
+                pen.line(5, self.home(head, len), len);
             }
             10 => {
                 let (code, k, x) = (self.rng.pick(&[3, 6]), self.position(pen), self.entry());

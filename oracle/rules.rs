@@ -1,4 +1,4 @@
-// Paper 01's rules of layout and refusal, written from the paper: validity, slots, heads, numbers, carrying, moves, stored form. No list is made here.
+// Paper 01's rules of layout and refusal, with request 03's of an empty ring, written from the papers: validity, slots, heads, numbers, carrying, moves, stored form. No list is made here.
 use crate::ops::{self, Act, Act::*, Kind, Kind::*};
 
 const MOST: u64 = 4096;
@@ -23,7 +23,12 @@ pub struct Asked {
 }
 
 pub fn valid(kind: Kind, s: State) -> bool {
-    s.cap <= MOST && s.len <= s.cap && (kind == Vector || s.head < s.cap || (s.cap == 0 && s.head == 0))
+    s.cap <= MOST && s.len <= s.cap && (kind == Vector || head_fits(s))
+}
+
+// A ring's head is a slot, or 0 where there is none; an empty ring's is 0.
+fn head_fits(s: State) -> bool {
+    (s.head < s.cap || (s.cap == 0 && s.head == 0)) && (s.len > 0 || s.head == 0)
 }
 
 // The slot of position j; asked of valid states only.
@@ -93,10 +98,10 @@ fn six(q: &Asked) -> bool {
     }
 }
 
-// The first container's head after a call that is done.
-pub fn head_after(q: &Asked) -> u64 {
+// The first container's head after a call that is done and leaves so many entries.
+pub fn head_after(q: &Asked, left: u64) -> u64 {
     let State { cap, head, len } = q.first;
-    if q.kind == Vector {
+    if q.kind == Vector || left == 0 {
         return 0;
     }
     let back = || (head + cap - 1) % cap;

@@ -1,4 +1,5 @@
-// Checks the desk's answers against results written by hand: paper 01's cases a to m and its listing, and answers to the byte for what those leave out.
+// Checks the desk's answers against results written by hand: paper 01's cases a to m and its listing, request 03's emptied rings, and answers to the byte
+// for what those leave out.
 use crate::desk::{Desk, Taken};
 use crate::pen::Pen;
 
@@ -43,6 +44,31 @@ const PAPER: [Case; 19] = [
     case("m, resize", U, (0x2d, 5, 0), (6, 0, 0), U),
 ];
 
+// Request 03: what takes the last entry out leaves head 0, what leaves one does not; an empty ring with another head is invalid.
+const LAST: Tray = (3, 1, &[5, 6, 7, 9]);
+const TWO: Tray = (3, 2, &[9, 6, 7, 8]);
+const TURNED: Tray = (1, 0, &[5, 6, 7, 8]);
+const EMPTIED: [Case; 18] = [
+    case("pop_back of the last", LAST, (0x18, 0, 0), (0, 9, 0), (0, 0, &[5, 6, 7, 0])),
+    case("pop_back of two", TWO, (0x18, 0, 0), (0, 9, 0), (3, 1, &[0, 6, 7, 8])),
+    case("pop_front of the last", LAST, (0x19, 0, 0), (0, 9, 0), (0, 0, &[5, 6, 7, 0])),
+    case("pop_front of the last, head 1", (1, 1, &[5, 9, 7, 8]), (0x19, 0, 0), (0, 9, 0), (0, 0, &[5, 0, 7, 8])),
+    case("pop_front of two, head 1", (1, 2, &[5, 8, 9, 7]), (0x19, 0, 0), (0, 8, 0), (2, 1, &[5, 0, 9, 7])),
+    case("remove of the only entry", LAST, (0x1b, 0, 0), (0, 9, 0), (0, 0, &[5, 6, 7, 0])),
+    case("remove of the second", TWO, (0x1b, 1, 0), (0, 9, 0), (3, 1, &[0, 6, 7, 8])),
+    case("truncate 0", TWO, (0x1c, 0, 0), (0, 0, 0), (0, 0, &[0, 6, 7, 0])),
+    case("truncate 1", TWO, (0x1c, 1, 0), (0, 0, 0), (3, 1, &[0, 6, 7, 8])),
+    case("resize 0", TWO, (0x1d, 0, 4), (0, 0, 0), (0, 0, &[0, 6, 7, 0])),
+    case("resize up from empty", (0, 0, &[5, 6, 7, 8]), (0x1d, 2, 4), (0, 0, 0), (0, 2, &[4, 4, 7, 8])),
+    case("push_back on an empty ring", (0, 0, &[5, 6, 7, 8]), (0x16, 0, 4), (0, 0, 0), (0, 1, &[4, 6, 7, 8])),
+    case("push_front on an empty ring", (0, 0, &[5, 6, 7, 8]), (0x17, 0, 4), (0, 0, 0), (3, 1, &[5, 6, 7, 4])),
+    case("push_back, turned", TURNED, (0x16, 0, 4), (1, 0, 0), TURNED),
+    case("pop_front, turned", TURNED, (0x19, 0, 0), (1, 0, 0), TURNED),
+    case("read beyond, turned", TURNED, (0x13, 0, 0), (1, 0, 0), TURNED),
+    case("clear, turned", TURNED, (0x1e, 0, 0), (1, 0, 0), TURNED),
+    case("a vector has no head", (1, 0, &[5, 6, 7, 8]), (0x26, 0, 4), (0, 0, 0), (0, 1, &[4, 6, 7, 8])),
+];
+
 // Paper 01's listing on its ring of capacity 4: each call with number, value, moves, head and length.
 const LISTING: [((u8, u64, u64), (u8, u32, u64, u64, u64)); 4] = [
     ((0x16, 0, 10), (0, 0, 0, 0, 1)),
@@ -51,9 +77,9 @@ const LISTING: [((u8, u64, u64), (u8, u32, u64, u64, u64)); 4] = [
     ((0x1b, 1, 0), (0, 10, 1, 3, 2)),
 ];
 
-// The paper's cases as lines of a list.
-pub fn write_paper(pen: &mut Pen) {
-    for case in &PAPER {
+// The papers' cases as lines of a list.
+pub fn write_papers(pen: &mut Pen) {
+    for case in PAPER.iter().chain(&EMPTIED) {
         pen.set_first(case.from.0, case.from.1, case.from.2);
         pen.line(case.call.0, case.call.1, case.call.2);
     }
@@ -64,19 +90,19 @@ pub fn write_paper(pen: &mut Pen) {
 }
 
 pub fn run() -> Result<(), String> {
-    for case in &PAPER {
+    for case in PAPER.iter().chain(&EMPTIED) {
         let mut desk = Desk::default();
         (desk.first.head, desk.first.len, desk.first.slots) = (case.from.0, case.from.1, case.from.2.to_vec());
         let came = called(&mut desk, case.call)?;
         let to = (desk.first.head, desk.first.len, &desk.first.slots[..]);
         if came != case.answer || to != case.to {
-            return Err(format!("paper 01, case {}: the desk says {came:?} and leaves {to:?}; the paper says {:?} and {:?}", case.name, case.answer, case.to));
+            return Err(format!("case {}: the desk says {came:?} and leaves {to:?}; by hand it is {:?} and {:?}", case.name, case.answer, case.to));
         }
     }
     listing()?;
     let bytes = to_the_byte()?;
     let counts = shorter_side()?;
-    println!("oracle selfcheck: {} cases of paper 01, its listing and {bytes} answers to the byte agree with what was written by hand,", PAPER.len());
+    println!("oracle selfcheck: {} cases of paper 01, its listing, {} of request 03 and {bytes} answers to the byte agree with what was written by hand,", PAPER.len(), EMPTIED.len());
     println!("and {counts} counts of moves with the paper's formula for a ring");
     Ok(())
 }
@@ -84,7 +110,8 @@ pub fn run() -> Result<(), String> {
 // The desk counts moves entry by entry; for a ring the paper says what that comes to.
 fn shorter_side() -> Result<usize, String> {
     let mut checked = 0;
-    for (cap, head, len) in (1..8u64).flat_map(|c| (0..c).flat_map(move |h| (0..=c).map(move |n| (c, h, n)))) {
+    let states = (1..8u64).flat_map(|c| (0..c).flat_map(move |h| (0..=c).map(move |n| (c, h, n))));
+    for (cap, head, len) in states.filter(|&(_, head, len)| len > 0 || head == 0) {
         for i in 0..=len {
             for (code, done, says) in [(0x1a, len < cap, i.min(len - i)), (0x1b, i < len, i.min((len - i).saturating_sub(1)))] {
                 let mut desk = Desk::default();

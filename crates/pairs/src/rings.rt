@@ -3,6 +3,8 @@
 use ring::Ring;
 ghost use mathlib.Core.Path.{_≡_};
 ghost use Rattle.table.specs.Calls.{append, splitOff, clone, same};
+ghost use Rattle.slots.specs.Layout.{ring};
+ghost use Rattle.table.specs.Does.{headAfter};
 ghost use Rattle.ring.specs.Seen.{state};
 ghost use Rattle.pairs.specs.Rings.{Meets, says};
 
@@ -77,7 +79,7 @@ pub fn split_off(
     let from = slots::slot(cap, head, at);
     runs::copy::carry(theirs, 0, 0, slots, from, len - at);
     runs::fill(slots, head, at, len, 0);
-    parted(0, head, at, 0, len - at)
+    split(head, at, len - at)
 }
 
 // T, which is empty, gets a copy of the entries.
@@ -162,4 +164,11 @@ fn parted(value: u32, head: usize, len: usize, head2: usize, len2: usize) -> Bot
     ensures { λ r. ⌜ r ≡ says 0 value (state head len) (state head2 len2) ⌝ }
 {
     done(value, ring::state(head, len), ring::state(head2, len2))
+}
+
+// A split_off that is done: the first is left with `at` entries, perhaps with none, and T holds the rest.
+fn split(head: usize, at: usize, rest: usize) -> Both
+    ensures { λ r. ⌜ r ≡ says 0 0 (state (headAfter ring at head) at) (state 0 rest) ⌝ }
+{
+    done(0, ring::left(head, at), ring::state(0, rest))
 }

@@ -2,6 +2,8 @@
 ghost use mathlib.Core.Path.{_≡_};
 ghost use Rattle.table.specs.Calls.{new, withCapacity, look, len, read, reserve};
 ghost use Rattle.table.specs.Calls.{write, push, pushFront, pop, popFront, insert, remove, truncate, resize, clear};
+ghost use Rattle.slots.specs.Layout.{ring};
+ghost use Rattle.table.specs.Does.{headAfter};
 ghost use Rattle.ring.specs.Seen.{Meets, Makes, state, says};
 
 // The state: the slot of position 0, and how many entries there are.
@@ -152,7 +154,7 @@ impl Ring {
         let at = slots::slot(cap, head, len - 1);
         let old = slots[at];
         slots[at] = 0;
-        done(old, 0, head, len - 1)
+        took(old, 0, head, len - 1)
     }
 
     pub fn pop_front(self, slots: &mut [u32]) -> Answer
@@ -169,7 +171,7 @@ impl Ring {
         }
         let old = slots[head];
         slots[head] = 0;
-        done(old, 0, slots::slot(cap, head, 1), len - 1)
+        took(old, 0, slots::slot(cap, head, 1), len - 1)
     }
 
     // The fewer entries are carried: those before i, or those from i on.
@@ -201,7 +203,7 @@ impl Ring {
         done(0, len - i, head, len + 1)
     }
 
-    // The fewer entries are carried: those before i, or those after.
+    // The fewer entries are carried: those before i, or those after. Where those before i are fewer, some are left.
     pub fn remove(self, slots: &mut [u32], i: usize) -> Answer
         ensures { λ r. ⌜ Meets (remove i) self (now (slots .entry)) r (now (slots .exit)) ⌝ }
     {
@@ -225,7 +227,7 @@ impl Ring {
         runs::shift_down(slots, head, i, last);
         let freed = slots::slot(cap, head, last);
         slots[freed] = 0;
-        done(old, last - i, head, last)
+        took(old, last - i, head, last)
     }
 
     // A ring on no slots has no slot for its head: where there is nothing to fill, here and below, that is a return of its own.
@@ -242,7 +244,7 @@ impl Ring {
             return shows(0, self);
         }
         runs::fill(slots, head, k, len, 0); // a free slot keeps what it held
-        done(0, 0, head, k)
+        took(0, 0, head, k)
     }
 
     pub fn resize(self, slots: &mut [u32], k: usize, x: u32) -> Answer
@@ -259,7 +261,7 @@ impl Ring {
         }
         if k < len {
             runs::fill(slots, head, k, len, 0);
-            return done(0, 0, head, k);
+            return took(0, 0, head, k);
         }
         if len < k {
             runs::fill(slots, head, len, k, x);
@@ -290,6 +292,16 @@ pub fn state(head: usize, len: usize) -> Ring
     ensures { λ r. ⌜ r ≡ state head len ⌝ }
 {
     Ring { head, len }
+}
+
+// The state of a ring that entries were taken out of: where none is left it starts at slot 0.
+pub fn left(head: usize, len: usize) -> Ring
+    ensures { λ r. ⌜ r ≡ state (headAfter ring len head) len ⌝ }
+{
+    if len == 0 {
+        return state(0, 0);
+    }
+    state(head, len)
 }
 
 // Every answer is put together here.
@@ -323,4 +335,11 @@ pub fn done(value: u32, moves: usize, head: usize, len: usize) -> Answer
     ensures { λ r. ⌜ r ≡ says 0 value moves (state head len) ⌝ }
 {
     says(0, value, moves, state(head, len))
+}
+
+// A call that is done and has taken entries out, perhaps the last.
+pub fn took(value: u32, moves: usize, head: usize, len: usize) -> Answer
+    ensures { λ r. ⌜ r ≡ says 0 value moves (state (headAfter ring len head) len) ⌝ }
+{
+    says(0, value, moves, left(head, len))
 }

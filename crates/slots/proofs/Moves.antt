@@ -35,9 +35,12 @@ moved-kept place k n =
     (below? j k))
 
 -- nothing remains, wherever the head is put
-pub moved-none : (was now : ℕ → ℕ) (n : ℕ) → moved was now (kept 0) n ≡ 0
+pub moved-gone : (was now : ℕ → ℕ) (carry : ℕ → Carried) (n : ℕ) → ((j : ℕ) → j < n → carry j ≡ gone) → moved was now carry n ≡ 0
 unfolding moved
-moved-none was now n = tally-none n _ (λ j h. out now (was j) (kept 0 j) (rw (le-ltb j 0 (omega arith))))
+moved-gone was now carry n all = tally-none n _ (λ j h. out now (was j) (carry j) (all j h))
+
+pub moved-none : (was now : ℕ → ℕ) (n : ℕ) → moved was now (kept 0) n ≡ 0
+moved-none was now n = moved-gone was now (kept 0) n (λ j h. rw (le-ltb j 0 (omega arith)))
 
 pub moved-replaced : (place : ℕ → ℕ) (i n : ℕ) → moved place place (replaced i) n ≡ 0
 unfolding moved

@@ -2,6 +2,7 @@
 pub mod Samples
 pub mod Worked
 pub mod WorkedChanges
+pub mod WorkedEmptied
 pub mod WorkedTwo
 pub mod WorkedSame
 pub mod WorkedMakings

@@ -6,6 +6,7 @@ pub mod Order
 pub mod Refused
 pub mod Moves
 pub mod Carrying
+pub mod CarriedSlots
 pub mod Parts
 pub mod Sameness
 pub mod Offers

@@ -3,7 +3,7 @@ use Prim.Native.Nat.{ℕ}
 use mathlib.Core.Bool.{Bool, cond}
 use mathlib.Core.List.{List, [], _∷_}
 use lib.ListN.{length}
-use lib.Dec.{ltb}
+use lib.Dec.{ltb, eqb}
 use Rattle.slots.specs.Layout.{most, Kind, ring, vector, place, pos, relaid}
 use Rattle.slots.specs.Moves.{Carried, moved}
 use Rattle.table.specs.Tray.{Tray, cap, list, invalid, Cursor, nowhere}
@@ -31,9 +31,9 @@ abbrev pub firstRefusal : {A : Type 0} → (ℕ → A) → List (Bool × Refusal
 firstRefusal refuse [] done = done
 firstRefusal refuse (r ∷ rest) done = cond (r .0) (refuse (numberOf (r .1))) (firstRefusal refuse rest done)
 
--- the head afterwards, where the row says h and n entries are left: a vector has none, and 0 stands there
+-- the head afterwards, where the row says h and n entries are left: an empty ring's is 0; a vector has none, and 0 stands there
 abbrev pub headAfter : Kind → (n h : ℕ) → ℕ
-headAfter ring n h = h
+headAfter ring n h = cond (eqb n 0) 0 h
 headAfter vector n h = 0
 
 -- the container once its list is `l`, where the row says `head`

@@ -1,15 +1,16 @@
 -- What is heard of a comparison is what is seen of it, every answer fits a word, and both containers are as they were, so a caller keeps the states that
 -- it gave.
 use mathlib.Core.Path.{_≡_, refl, ap, _∙_}
+use mathlib.Core.Bool.{false}
 use mathlib.Core.List.{List}
 use Prim.Native.Nat.{ℕ, _<_}
 use Rattle.slots.specs.Layout.{Kind, ring, vector}
-use Rattle.table.specs.Tray.{Tray, list, nowhere}
+use Rattle.table.specs.Tray.{Tray, list, invalid, nowhere}
 use Rattle.table.specs.Calls.{same}
 use Rattle.table.specs.Table.{after2}
 use Rattle.table.specs.Does.{Outcome2, refused2, done2, does2, rowOf2, refusalsOf2}
 use Rattle.table.proofs.Laws.Refusals.{either}
-use Rattle.table.proofs.Laws.Done.{Homed}
+use Rattle.table.proofs.Laws.Done.{Homed, homed}
 use Rattle.ring.specs.declared.Ring.{Ring}
 use Rattle.vector.specs.declared.Vector.{Vector}
 use Rattle.pairs.specs.declared.rings.Both as of-rings
@@ -22,24 +23,24 @@ use Rattle.tumbrelice.specs.Heard.{Worded, Hears2, ringIn, vectorIn, rin
 use Rattle.tumbrelice.proofs.Words.{number-fits2, moves-fit2, heard2-is, unmoved}
 
 -- a comparison leaves both
-first-still : (k k2 : Kind) (t t2 : Tray) → Homed k t → does2 k k2 same t t2 .first ≡ t
+first-still : (k k2 : Kind) (t t2 : Tray) → (invalid k t ≡ false → Homed k t) → does2 k k2 same t t2 .first ≡ t
 unfolding does2
 first-still k k2 t t2 home =
     either (λ (o : Outcome2). o .first ≡ t) (refused2 t t2 (rowOf2 k k2 same t t2 .given)) (refusalsOf2 k k2 same t t2)
     (done2 k k2 t t2 (after2 same (list k t) (list k2 t2)) (rowOf2 k k2 same t t2))
     (λ r. refl)
-    (λ clear. unmoved k t (clear .0) home)
+    (λ clear. unmoved k t (clear .0) (home (clear .0)))
 
-second-still : (k k2 : Kind) (t t2 : Tray) → Homed k2 t2 → does2 k k2 same t t2 .second ≡ t2
+second-still : (k k2 : Kind) (t t2 : Tray) → (invalid k2 t2 ≡ false → Homed k2 t2) → does2 k k2 same t t2 .second ≡ t2
 unfolding does2
 second-still k k2 t t2 home2 =
     either (λ (o : Outcome2). o .second ≡ t2) (refused2 t t2 (rowOf2 k k2 same t t2 .given)) (refusalsOf2 k k2 same t t2)
     (done2 k k2 t t2 (after2 same (list k t) (list k2 t2)) (rowOf2 k k2 same t t2))
     (λ r. refl)
-    (λ clear. unmoved k2 t2 (clear .1 .0) home2)
+    (λ clear. unmoved k2 t2 (clear .1 .0) (home2 (clear .1 .0)))
 
 -- THE RULE: o is what was seen of the call, and t and t2 what the caller gave and keeps
-compared : (k k2 : Kind) (t t2 : Tray) (o : Outcome2) (word : ℕ) → Homed k t → Homed k2 t2 → o .cursor ≡ nowhere → o ≡ does2 k k2 same t t2
+compared : (k k2 : Kind) (t t2 : Tray) (o : Outcome2) (word : ℕ) → (invalid k t ≡ false → Homed k t) → (invalid k2 t2 ≡ false → Homed k2 t2) → o .cursor ≡ nowhere → o ≡ does2 k k2 same t t2
     → Worded (o .number) (o .value) (o .moves) word → Hears2 k k2 same t t2 word t t2
 compared k k2 t t2 o word home home2 none e w =
     let first : o .first ≡ t = ap (λ (o : Outcome2). o .first) e ∙ first-still k k2 t t2 home in
@@ -59,7 +60,7 @@ pub rings-compared : (st ot s z : List ℕ) (r t : Ring) (a : of-rings.Both) (wo
     → Worded (a .number) (a .value) (a .moves) word → Hears2 ring ring same (ringOf st s) (ringOf ot z) word (ringOf st s) (ringOf ot z)
 rings-compared st ot s z r t a word er et e w =
     let e′ : rings.Meets same (ringIn st) s (ringIn ot) z a s z = rw (er, et) at e in
-    compared ring ring _ _ (rings.seen2 a s z) word refl refl refl (e′ .row) w
+    compared ring ring _ _ (rings.seen2 a s z) word (homed (ringOf st s)) (homed (ringOf ot z)) refl (e′ .row) w
 
 module _ (v t : Vector) (s z : List ℕ) (a : of-vectors.Both) (e : vectors.Meets same v s t z a s z) where
   pub vectors-number : a .number < 16
@@ -72,7 +73,7 @@ pub vectors-compared : (n m : ℕ) (s z : List ℕ) (v t : Vector) (a : of-vecto
     → Worded (a .number) (a .value) (a .moves) word → Hears2 vector vector same (vectorOf n s) (vectorOf m z) word (vectorOf n s) (vectorOf m z)
 vectors-compared n m s z v t a word ev et e w =
     let e′ : vectors.Meets same (vectorIn n) s (vectorIn m) z a s z = rw (ev, et) at e in
-    compared vector vector _ _ (vectors.seen2 a s z) word refl refl refl (e′ .row) w
+    compared vector vector _ _ (vectors.seen2 a s z) word (λ ok. refl) (λ ok. refl) refl (e′ .row) w
 
 module _ (r : Ring) (t : Vector) (s z : List ℕ) (a : of-mixed.Both) (e : mixed.Meets same r s t z a s z) where
   pub mixed-number : a .number < 16
@@ -86,6 +87,6 @@ pub mixed-compared : (st : List ℕ) (m : ℕ) (s z : List ℕ) (r : Ring) (t : 
     → Hears2 ring vector same (ringOf st s) (vectorOf m z) word (ringOf st s) (vectorOf m z)
 mixed-compared st m s z r t a word er et e w =
     let e′ : mixed.Meets same (ringIn st) s (vectorIn m) z a s z = rw (er, et) at e in
-    compared ring vector _ _ (mixed.seen2 a s z) word refl refl refl (e′ .row) w
+    compared ring vector _ _ (mixed.seen2 a s z) word (homed (ringOf st s)) (λ ok. refl) refl (e′ .row) w
 
 pub ruleset fits = (rings-number, rings-moves, vectors-number, vectors-moves, mixed-number, mixed-moves)

@@ -11,7 +11,7 @@ use Rattle.table.specs.Calls.{Call, Look, look, Call2, clone, has}
 use Rattle.table.specs.Table.{after, after2}
 use Rattle.table.specs.Does.{Outcome, refused, relay, done, does, rowOf, refusalsOf, Outcome2, refused2, done2, does2, rowOf2, refusalsOf2}
 use Rattle.table.proofs.Laws.Refusals.{either}
-use Rattle.table.proofs.Laws.Done.{Homed, done-is, many, as-it-was}
+use Rattle.table.proofs.Laws.Done.{Homed, homed, done-is, many, as-it-was}
 use Rattle.table.proofs.Laws.Looks.{look-done}
 use Rattle.table.proofs.Theorems.Refused.{few-numbers, few-numbers2}
 use Rattle.table.proofs.Theorems.Moves.{few-moves, moves-of2}
@@ -95,15 +95,15 @@ vector-hears call n n′ s s′ v a word ev e en w =
     rw en (record { row = heard-at _ _ _ word (vectors.tray (a .vector) s′) nowhere _ w (e′ .row); free = w .free })
 
 -- a look leaves the container as it is, so a caller keeps the state that it gave
-look-still : (k : Kind) (q : Look) (t : Tray) → Homed k t → does k (look q) t .tray ≡ t
+look-still : (k : Kind) (q : Look) (t : Tray) → (invalid k t ≡ false → Homed k t) → does k (look q) t .tray ≡ t
 unfolding does
 look-still k q t home =
     either (λ (o : Outcome). o .tray ≡ t) (refused t (rowOf k (look q) t .given)) (refusalsOf k (look q) t)
     (done k t (after (look q) (list k t)) (rowOf k (look q) t))
     (λ r. refl)
-    (λ clear. ap (λ o. o .tray) (sym (done-is k t (look q) (clear .0) (clear .1)) ∙ sym (look-done k t _ (clear .0) home q (clear .1) refl)))
+    (λ clear. ap (λ o. o .tray) (sym (done-is k t (look q) (clear .0) (clear .1)) ∙ sym (look-done k t _ (clear .0) (home (clear .0)) q (clear .1) refl)))
 
-looked : (m x k word : ℕ) (t′ t : Tray) (kind : Kind) (q : Look) → Homed kind t → Worded m x k word
+looked : (m x k word : ℕ) (t′ t : Tray) (kind : Kind) (q : Look) → (invalid kind t ≡ false → Homed kind t) → Worded m x k word
     → record { number = m; value = x; moves = k; tray = t′; cursor = nowhere } ≡ does kind (look q) t → Hears kind (look q) t word t
 looked m x k word t′ t kind q home w e = record {
   row =
@@ -116,13 +116,13 @@ pub ring-looked : (q : Look) (st s : List ℕ) (r : Ring) (a : ringAnswer.Answer
     → Worded (a .number) (a .value) (a .moves) word → Hears ring (look q) (ringOf st s) word (ringOf st s)
 ring-looked q st s r a word er e w =
     let e′ : rings.Meets (look q) (ringIn st) s a s = rw er at e in
-    looked _ _ _ word _ (ringOf st s) ring q refl w (e′ .row)
+    looked _ _ _ word _ (ringOf st s) ring q (homed (ringOf st s)) w (e′ .row)
 
 pub vector-looked : (q : Look) (n : ℕ) (s : List ℕ) (v : Vector) (a : vectorAnswer.Answer) (word : ℕ) → v ≡ vectorIn n → vectors.Meets (look q) v s a s
     → Worded (a .number) (a .value) (a .moves) word → Hears vector (look q) (vectorOf n s) word (vectorOf n s)
 vector-looked q n s v a word ev e w =
     let e′ : vectors.Meets (look q) (vectorIn n) s a s = rw ev at e in
-    looked _ _ _ word _ (vectorOf n s) vector q refl w (e′ .row)
+    looked _ _ _ word _ (vectorOf n s) vector q (λ ok. refl) w (e′ .row)
 
 -- on two rings
 pub rings-hear : (call : Call2) (st ot st′ ot′ s z s′ z′ : List ℕ) (r t : Ring) (a : Both) (word : ℕ) → r ≡ ringIn st → t ≡ ringIn ot
@@ -139,20 +139,20 @@ unmoved k t ok home =
     as-before
 
 -- clone leaves the container that it copies
-clone-still : (k k2 : Kind) (t t2 : Tray) → Homed k t → does2 k k2 clone t t2 .first ≡ t
+clone-still : (k k2 : Kind) (t t2 : Tray) → (invalid k t ≡ false → Homed k t) → does2 k k2 clone t t2 .first ≡ t
 unfolding does2
 clone-still k k2 t t2 home =
     either (λ (o : Outcome2). o .first ≡ t) (refused2 t t2 (rowOf2 k k2 clone t t2 .given)) (refusalsOf2 k k2 clone t t2)
     (done2 k k2 t t2 (after2 clone (list k t) (list k2 t2)) (rowOf2 k k2 clone t t2))
     (λ r. refl)
-    (λ clear. unmoved k t (clear .0) home)
+    (λ clear. unmoved k t (clear .0) (home (clear .0)))
 
 pub rings-cloned : (st ot ot′ s z z′ : List ℕ) (r t : Ring) (a : Both) (word : ℕ) → r ≡ ringIn st → t ≡ ringIn ot
     → pairs.Meets clone r s t z a s z′ → ot′ ≡ ringOut (a .second) → Worded (a .number) (a .value) (a .moves) word
     → Hears2 ring ring clone (ringOf st s) (ringOf ot z) word (ringOf st s) (ringOf ot′ z′)
 rings-cloned st ot ot′ s z z′ r t a word er et e eo w =
     let e′ : pairs.Meets clone (ringIn st) s (ringIn ot) z a s z′ = rw (er, et) at e in
-    let kept : rings.tray (a .first) s ≡ ringOf st s = ap (λ (o : Outcome2). o .first) (e′ .row) ∙ clone-still ring ring (ringOf st s) (ringOf ot z) refl in
+    let kept : rings.tray (a .first) s ≡ ringOf st s = ap (λ (o : Outcome2). o .first) (e′ .row) ∙ clone-still ring ring (ringOf st s) (ringOf ot z) (homed (ringOf st s)) in
     rw eo (record {
       row =
           heard2-is _ _ _ word (ringOf st s) (rings.tray (a .second) z′) _ w

@@ -43,9 +43,13 @@ overfull = tray 0 3 (5 ∷ 6 ∷ [])
 abbrev pub headOut : Tray
 headOut = tray 2 0 (5 ∷ 6 ∷ [])
 
--- a ring with no entry, with one and with two, list 3,4; each has its last slot for a head
+-- invalid as a ring, since it is empty: the head is a slot and not 0
+abbrev pub emptyTurned : Tray
+emptyTurned = tray 1 0 (5 ∷ 6 ∷ [])
+
+-- a ring with no entry; one with one, and one with two, list 3,4, which have their last slot for a head
 abbrev pub emptyRing : Tray
-emptyRing = tray 1 0 (5 ∷ 6 ∷ [])
+emptyRing = tray 0 0 (5 ∷ 6 ∷ [])
 
 abbrev pub oneEntry : Tray
 oneEntry = tray 1 1 (3 ∷ 6 ∷ [])

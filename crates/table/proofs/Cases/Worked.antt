@@ -14,13 +14,17 @@ use Rattle.table.specs.Parts.{Part, lends, lendsAll, inPart}
 use Rattle.table.proofs.Theorems.Trays.{tray, cursor, answers, W, U}
 use Rattle.table.proofs.Cases.Samples.{tells, shows, stops, noSlots, overfull, emptyRing, emptyVector, fullVector}
 
--- When a ring is valid: n ≤ c and h < c, or c = h = 0.
+-- When a ring is valid: n ≤ c and h < c, or c = h = 0; and an empty one has h = 0.
 ring-states :
     (does ring (look len) (tray 3 4 (1 ∷ 2 ∷ 3 ∷ 4 ∷ [])) ≡ tells 4 (tray 3 4 (1 ∷ 2 ∷ 3 ∷ 4 ∷ [])))
     × (does ring (look len) (tray 3 5 (1 ∷ 2 ∷ 3 ∷ 4 ∷ [])) ≡ answers 1 (tray 3 5 (1 ∷ 2 ∷ 3 ∷ 4 ∷ [])))
     × (does ring (look len) (tray 4 4 (1 ∷ 2 ∷ 3 ∷ 4 ∷ [])) ≡ answers 1 (tray 4 4 (1 ∷ 2 ∷ 3 ∷ 4 ∷ [])))
     × (does ring (look len) (tray 0 1 (1 ∷ [])) ≡ tells 1 (tray 0 1 (1 ∷ [])))
     × (does ring (look len) (tray 1 0 (1 ∷ [])) ≡ answers 1 (tray 1 0 (1 ∷ [])))
+    × (does ring (look len) (tray 0 0 (1 ∷ 2 ∷ 3 ∷ 4 ∷ [])) ≡ tells 0 (tray 0 0 (1 ∷ 2 ∷ 3 ∷ 4 ∷ [])))
+    × (does ring (look len) (tray 1 0 (1 ∷ 2 ∷ 3 ∷ 4 ∷ [])) ≡ answers 1 (tray 1 0 (1 ∷ 2 ∷ 3 ∷ 4 ∷ [])))
+    × (does ring (look len) (tray 3 0 (1 ∷ 2 ∷ 3 ∷ 4 ∷ [])) ≡ answers 1 (tray 3 0 (1 ∷ 2 ∷ 3 ∷ 4 ∷ [])))
+    × (does ring (look len) (tray 3 1 (1 ∷ 2 ∷ 3 ∷ 4 ∷ [])) ≡ tells 1 (tray 3 1 (1 ∷ 2 ∷ 3 ∷ 4 ∷ [])))
     × (does ring (look len) (tray 0 2 (1 ∷ [])) ≡ answers 1 (tray 0 2 (1 ∷ [])))
     × (does ring (look len) (tray 0 0 []) ≡ tells 0 (tray 0 0 []))
     × (does ring (look len) (tray 1 0 []) ≡ answers 1 (tray 1 0 []))
@@ -28,7 +32,7 @@ ring-states :
     × (does ring (look len) (tray 18446744073709551615 0 (1 ∷ [])) ≡ answers 1 (tray 18446744073709551615 0 (1 ∷ [])))
     × (does ring (look len) (tray 0 18446744073709551615 (1 ∷ [])) ≡ answers 1 (tray 0 18446744073709551615 (1 ∷ [])))
 unfolding does valid entries relaid moved tabulate tally one slotOf posOf
-ring-states = (refl, refl, refl, refl, refl, refl, refl, refl, refl, refl, refl)
+ring-states = (refl, refl, refl, refl, refl, refl, refl, refl, refl, refl, refl, refl, refl, refl, refl)
 
 -- When a vector is valid: n ≤ c.
 vector-states :

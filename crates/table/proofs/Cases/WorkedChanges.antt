@@ -16,7 +16,7 @@ use Rattle.table.proofs.Cases.Samples.{noSlots, overfull, headOut, empt
 pushes :
     (does ring (push 8) W ≡ gives 0 0 2 4 (11 ∷ 8 ∷ 9 ∷ 10 ∷ []))
     × (does ring (push 9) toLast ≡ gives 0 0 2 5 (9 ∷ 8 ∷ 20 ∷ 21 ∷ 22 ∷ 23 ∷ []))
-    × (does ring (push 9) emptyRing ≡ gives 0 0 1 1 (5 ∷ 9 ∷ []))
+    × (does ring (push 9) emptyRing ≡ gives 0 0 0 1 (9 ∷ 6 ∷ []))
     × (does ring (push 9) fullRing ≡ answers 6 fullRing)
     × (does ring (push 9) overfull ≡ answers 1 overfull)
     × (does vector (push 4294967295) U ≡ gives 0 0 0 4 (1 ∷ 2 ∷ 3 ∷ 4294967295 ∷ []))
@@ -26,23 +26,23 @@ pushes :
 unfolding does valid entries relaid moved tabulate tally one slotOf posOf
 pushes = (refl, refl, refl, refl, refl, refl, refl, refl, refl)
 
--- push_front: the head goes one slot back, from slot 0 to the last, also on an empty ring.
+-- push_front: the head goes one slot back, from slot 0 to the last; so on an empty ring too.
 front-pushes :
     (does ring (pushFront 8) W ≡ gives 0 0 1 4 (11 ∷ 8 ∷ 9 ∷ 10 ∷ []))
     × (does ring (pushFront 4294967295) fromFirst ≡ gives 0 0 5 6 (20 ∷ 21 ∷ 22 ∷ 23 ∷ 24 ∷ 4294967295 ∷ []))
-    × (does ring (pushFront 9) emptyRing ≡ gives 0 0 0 1 (9 ∷ 6 ∷ []))
-    × (does ring (pushFront 9) (tray 0 0 (5 ∷ 6 ∷ [])) ≡ gives 0 0 1 1 (5 ∷ 9 ∷ []))
+    × (does ring (pushFront 9) emptyRing ≡ gives 0 0 1 1 (5 ∷ 9 ∷ []))
+    × (does ring (pushFront 9) (tray 0 0 (1 ∷ 2 ∷ 3 ∷ 4 ∷ [])) ≡ gives 0 0 3 1 (1 ∷ 2 ∷ 3 ∷ 9 ∷ []))
     × (does ring (pushFront 9) fullRing ≡ answers 6 fullRing)
     × (does ring (pushFront 9) noSlots ≡ answers 6 noSlots)
     × (does ring (pushFront 9) overfull ≡ answers 1 overfull)
 unfolding does valid entries relaid moved tabulate tally one slotOf posOf
 front-pushes = (refl, refl, refl, refl, refl, refl, refl)
 
--- pop_back and pop: the slot given up holds 0, the head stays, an emptied ring's too.
+-- pop_back and pop: the slot given up holds 0, and the head stays; an emptied ring's is 0.
 pops :
     (does ring pop W ≡ gives 11 0 2 2 (0 ∷ 0 ∷ 9 ∷ 10 ∷ []))
     × (does ring pop toLast ≡ gives 23 0 2 3 (7 ∷ 8 ∷ 20 ∷ 21 ∷ 22 ∷ 0 ∷ []))
-    × (does ring pop oneEntry ≡ gives 6 0 1 0 (3 ∷ 0 ∷ []))
+    × (does ring pop oneEntry ≡ gives 6 0 0 0 (3 ∷ 0 ∷ []))
     × (does ring pop emptyRing ≡ answers 4 emptyRing)
     × (does ring pop headOut ≡ answers 1 headOut)
     × (does vector pop U ≡ gives 3 0 0 2 (1 ∷ 2 ∷ 0 ∷ 9 ∷ []))
@@ -80,7 +80,7 @@ insert-ends :
     (does ring (insert 0 9) fromFirst ≡ gives 0 0 5 6 (20 ∷ 21 ∷ 22 ∷ 23 ∷ 24 ∷ 9 ∷ []))
     × (does ring (insert 5 9) fromFirst ≡ gives 0 0 0 6 (20 ∷ 21 ∷ 22 ∷ 23 ∷ 24 ∷ 9 ∷ []))
     × (does ring (insert 6 9) fromFirst ≡ answers 3 fromFirst)
-    × (does ring (insert 0 9) emptyRing ≡ gives 0 0 1 1 (5 ∷ 9 ∷ []))
+    × (does ring (insert 0 9) emptyRing ≡ gives 0 0 0 1 (9 ∷ 6 ∷ []))
     × (does ring (insert 1 9) emptyRing ≡ answers 3 emptyRing)
     × (does ring (insert 3 9) fullRing ≡ answers 6 fullRing)
     × (does ring (insert 4 9) fullRing ≡ answers 3 fullRing)
@@ -116,12 +116,12 @@ ring-removes :
 unfolding does valid entries relaid moved tabulate tally one slotOf posOf
 ring-removes = (refl, refl, refl, refl, refl, refl, refl)
 
--- remove at either end moves nothing; position n - 1 is done and n refused; the one entry of a ring leaves the head where it is.
+-- remove at either end moves nothing; position n - 1 is done and n refused; where the one entry of a ring goes, the head is 0.
 remove-ends :
     (does ring (remove 0) fromFirst ≡ gives 20 0 1 4 (0 ∷ 21 ∷ 22 ∷ 23 ∷ 24 ∷ 7 ∷ []))
     × (does ring (remove 4) fromFirst ≡ gives 24 0 0 4 (20 ∷ 21 ∷ 22 ∷ 23 ∷ 0 ∷ 7 ∷ []))
     × (does ring (remove 5) fromFirst ≡ answers 3 fromFirst)
-    × (does ring (remove 0) oneEntry ≡ gives 6 0 1 0 (3 ∷ 0 ∷ []))
+    × (does ring (remove 0) oneEntry ≡ gives 6 0 0 0 (3 ∷ 0 ∷ []))
     × (does ring (remove 1) oneEntry ≡ answers 3 oneEntry)
     × (does ring (remove 18446744073709551615) W ≡ answers 3 W)
     × (does ring (remove 0) noSlots ≡ answers 3 noSlots)
@@ -177,8 +177,8 @@ truncates :
     × (does ring (truncate 4) wrapping ≡ gives 0 0 4 4 (22 ∷ 23 ∷ 7 ∷ 8 ∷ 20 ∷ 21 ∷ []))
     × (does ring (truncate 5) wrapping ≡ gives 0 0 4 4 (22 ∷ 23 ∷ 7 ∷ 8 ∷ 20 ∷ 21 ∷ []))
     × (does ring (truncate 18446744073709551615) wrapping ≡ gives 0 0 4 4 (22 ∷ 23 ∷ 7 ∷ 8 ∷ 20 ∷ 21 ∷ []))
-    × (does ring (truncate 0) W ≡ gives 0 0 2 0 (0 ∷ 0 ∷ 0 ∷ 0 ∷ []))
-    × (does ring (truncate 0) emptyRing ≡ gives 0 0 1 0 (5 ∷ 6 ∷ []))
+    × (does ring (truncate 0) W ≡ gives 0 0 0 0 (0 ∷ 0 ∷ 0 ∷ 0 ∷ []))
+    × (does ring (truncate 0) emptyRing ≡ gives 0 0 0 0 (5 ∷ 6 ∷ []))
     × (does ring (truncate 1) overfull ≡ answers 1 overfull)
     × (does vector (truncate 2) U ≡ gives 0 0 0 2 (1 ∷ 2 ∷ 0 ∷ 9 ∷ []))
     × (does vector (truncate 0) U ≡ gives 0 0 0 0 (0 ∷ 0 ∷ 0 ∷ 9 ∷ []))
@@ -193,7 +193,7 @@ resizes :
     × (does ring (resize 5 9) wrapping ≡ gives 0 0 4 5 (22 ∷ 23 ∷ 9 ∷ 8 ∷ 20 ∷ 21 ∷ []))
     × (does ring (resize 6 9) toLast ≡ gives 0 0 2 6 (9 ∷ 9 ∷ 20 ∷ 21 ∷ 22 ∷ 23 ∷ []))
     × (does ring (resize 7 9) toLast ≡ answers 6 toLast)
-    × (does ring (resize 0 9) W ≡ gives 0 0 2 0 (0 ∷ 0 ∷ 0 ∷ 0 ∷ []))
+    × (does ring (resize 0 9) W ≡ gives 0 0 0 0 (0 ∷ 0 ∷ 0 ∷ 0 ∷ []))
     × (does ring (resize 18446744073709551615 9) W ≡ answers 6 W)
     × (does ring (resize 0 9) noSlots ≡ gives 0 0 0 0 [])
     × (does ring (resize 1 9) noSlots ≡ answers 6 noSlots)
@@ -205,7 +205,7 @@ resizes :
 unfolding does valid entries relaid moved tabulate tally one slotOf posOf
 resizes = (refl, refl, refl, refl, refl, refl, refl, refl, refl, refl, refl, refl, refl, refl)
 
--- clear puts a ring's head to 0, that of an empty ring too, and leaves free slots as they are.
+-- clear puts a ring's head to 0 and leaves free slots as they are.
 clears :
     (does ring clear W ≡ gives 0 0 0 0 (0 ∷ 0 ∷ 0 ∷ 0 ∷ []))
     × (does ring clear wrapping ≡ gives 0 0 0 0 (0 ∷ 0 ∷ 7 ∷ 8 ∷ 0 ∷ 0 ∷ []))

@@ -30,10 +30,10 @@ turned :
 unfolding does2 valid entries relaid moved tabulate tally one slotOf posOf
 turned = (refl, refl, refl, refl, refl, refl, refl, refl, refl, refl, refl, refl)
 
--- Empty rings are same, whatever their heads and capacities, and on no slots at all; none is same as a ring that holds something.
+-- Empty rings are same, whatever their capacities and free slots, and on no slots at all; none is same as a ring that holds something.
 empty-rings :
     (does2 ring ring same emptyRing (tray 0 0 (7 ∷ 8 ∷ [])) ≡ tells2 1 emptyRing (tray 0 0 (7 ∷ 8 ∷ [])))
-    × (does2 ring ring same emptyRing (tray 1 0 (5 ∷ 6 ∷ 7 ∷ [])) ≡ tells2 1 emptyRing (tray 1 0 (5 ∷ 6 ∷ 7 ∷ [])))
+    × (does2 ring ring same emptyRing (tray 0 0 (5 ∷ 6 ∷ 7 ∷ [])) ≡ tells2 1 emptyRing (tray 0 0 (5 ∷ 6 ∷ 7 ∷ [])))
     × (does2 ring ring same emptyRing noSlots ≡ tells2 1 emptyRing noSlots)
     × (does2 ring ring same noSlots emptyRing ≡ tells2 1 noSlots emptyRing)
     × (does2 ring ring same noSlots noSlots ≡ tells2 1 noSlots noSlots)
@@ -91,7 +91,7 @@ across :
 unfolding does2 valid entries relaid moved tabulate tally one slotOf posOf
 across = (refl, refl, refl, refl, refl, refl, refl, refl, refl, refl, refl, refl, refl, refl)
 
--- What is invalid is not compared: 1, then 2, the lower where both apply. A ring's head must be a slot; a vector has none.
+-- What is invalid is not compared: 1, then 2, the lower where both apply. A ring's head must be a slot, and an empty ring's 0; a vector has none.
 refusals :
     (does2 ring ring same W overfull ≡ answers2 2 W overfull)
     × (does2 ring ring same overfull W ≡ answers2 1 overfull W)

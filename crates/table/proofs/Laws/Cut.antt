@@ -8,7 +8,7 @@ use native.Mathlib.Omega.{arith}
 use borrow.Author.Tests.{le-ltb}
 use lib.ListN.{length, take, replicate, length-take, length-append, length-replicate}
 use lib.Seq.{take-all}
-use Rattle.slots.specs.Layout.{Kind, place}
+use Rattle.slots.specs.Layout.{Kind, ring, vector, place, itself, slotOf}
 use Rattle.slots.specs.Moves.{moved, kept}
 use Rattle.slots.specs.Shift.{Filled}
 use Rattle.slots.specs.Copy.{Laid}
@@ -20,7 +20,7 @@ use Rattle.table.specs.Tray.{Tray, cap, list, invalid}
 use Rattle.table.specs.Calls.{truncate, resize, clear, extend}
 use Rattle.table.specs.Does.{Outcome, gives, headAfter, does}
 use Rattle.table.proofs.Laws.Valid.{fit}
-use Rattle.table.proofs.Laws.Done.{Homed, done-is, no-head, many, still, as-it-was, same-place, same-pos}
+use Rattle.table.proofs.Laws.Done.{Homed, no-head, head-stays, done-plainly, many, still, as-it-was}
 
 module _ (k : Kind) (t : Tray) (o : Outcome) (ok : invalid k t ≡ false) where
   keeps : (i : ℕ) → moved (place k (cap t) (t .head)) (place k (cap t) (t .head)) (kept i) (t .len) ≡ 0
@@ -35,7 +35,7 @@ module _ (k : Kind) (t : Tray) (o : Outcome) (ok : invalid k t ≡ false) where
 
   pub truncate-same-done : Homed k t → (i : ℕ) → t .len ≤ i → o ≡ gives 0 0 (t .head) (t .len) (t .slots) → o ≡ does k (truncate i) t
   truncate-same-done home i h eo =
-      cc (eo, home, done-is k t (truncate i) ok tt, whole i h, many k t, keeps i, as-it-was k t ok)
+      cc (eo, home, done-plainly k t (truncate i) ok tt, whole i h, many k t, keeps i, as-it-was k t ok)
 
   pub truncate-done : (i : ℕ) (u : List ℕ) → i < t .len → Filled (place k (cap t) (t .head)) i (t .len) 0 (t .slots) u
       → o ≡ gives 0 0 (headAfter k i (t .head)) i u → o ≡ does k (truncate i) t
@@ -43,12 +43,10 @@ module _ (k : Kind) (t : Tray) (o : Outcome) (ok : invalid k t ≡ false) where
       let f = fit k t ok in
       cc (
         eo,
-        done-is k t (truncate i) ok tt,
+        done-plainly k t (truncate i) ok tt,
         cut i h,
         keeps i,
         relaid-take _ _ (t .len) i (t .slots) u (f .placed) (f .fits) (omega arith) m,
-        same-place k (cap t) i (t .head),
-        same-pos k (cap t) i (t .head),
       )
 
   -- resize to fewer, to more, to as many
@@ -59,34 +57,30 @@ module _ (k : Kind) (t : Tray) (o : Outcome) (ok : invalid k t ≡ false) where
       let no-more : i - length (list k t) ≡ 0 = omega (arith, many k t) in
       cc (
         eo,
-        done-is k t (resize i x) ok (le-ltb _ _ fits, tt),
+        done-plainly k t (resize i x) ok (le-ltb _ _ fits, tt),
         cut i h,
         no-more,
         append-nil (take i (list k t)),
         keeps i,
         relaid-take _ _ (t .len) i (t .slots) u (f .placed) (f .fits) (omega arith) m,
-        same-place k (cap t) i (t .head),
-        same-pos k (cap t) i (t .head),
       )
 
-  pub resize-more-done : (i x : ℕ) (u : List ℕ) → i ≤ cap t → t .len < i → Filled (place k (cap t) (t .head)) (t .len) i x (t .slots) u
+  resize-more : (i x : ℕ) (u : List ℕ) → i ≤ cap t → t .len < i → Filled (place k (cap t) (t .head)) (t .len) i x (t .slots) u
       → o ≡ gives 0 0 (headAfter k i (t .head)) i u → o ≡ does k (resize i x) t
-  resize-more-done i x u fits h m eo =
+  resize-more i x u fits h m eo =
       let f = fit k t ok in
       let more : ℕ = i - t .len in
       let sum : t .len + more ≡ i = omega arith in
       let long : length (list k t ++ replicate more x) ≡ i = simp (length-append, many k t, length-replicate) (omega arith) in
       cc (
         eo,
-        done-is k t (resize i x) ok (le-ltb _ _ fits, tt),
+        done-plainly k t (resize i x) ok (le-ltb _ _ fits, tt),
         whole i (omega arith),
         many k t,
         long,
         keeps i,
         relaid-append _ _ (t .len) more (replicate more x) (t .slots) u (f .placed) (length-replicate more x) (omega arith)
             (fill-lays _ (t .len) more x (t .slots) u (rw sum m)),
-        same-place k (cap t) i (t .head),
-        same-pos k (cap t) i (t .head),
       )
 
   pub resize-same-done : Homed k t → (i x : ℕ) → i ≤ cap t → t .len ≤ i → i ≤ t .len → o ≡ gives 0 0 (t .head) (t .len) (t .slots) → o ≡ does k (resize i x) t
@@ -95,7 +89,7 @@ module _ (k : Kind) (t : Tray) (o : Outcome) (ok : invalid k t ≡ false) where
       cc (
         eo,
         home,
-        done-is k t (resize i x) ok (le-ltb _ _ fits, tt),
+        done-plainly k t (resize i x) ok (le-ltb _ _ fits, tt),
         whole i h,
         no-more,
         append-nil (list k t),
@@ -109,7 +103,7 @@ module _ (k : Kind) (t : Tray) (o : Outcome) (ok : invalid k t ≡ false) where
   clear-done u m eo =
       cc (
         eo,
-        done-is k t clear ok tt,
+        done-plainly k t clear ok tt,
         no-head k 0,
         moved-none (place k (cap t) (t .head)) (place k (cap t) 0) (t .len),
         relaid-clear _ _ _ _ (t .len) (t .slots) u (fit k t ok .placed) (placing k (cap t) 0 (omega arith)) m,
@@ -125,10 +119,17 @@ module _ (k : Kind) (t : Tray) (o : Outcome) (ok : invalid k t ≡ false) where
       let long : length (list k t ++ s) ≡ t .len + length s = simp (length-append, many k t) in
       cc (
         eo,
-        done-is k t (extend s) ok (le-ltb _ _ room, tt),
+        done-plainly k t (extend s) ok (le-ltb _ _ room, tt),
         long,
         still k t,
         relaid-append _ _ (t .len) (length s) s (t .slots) u (f .placed) refl (omega (arith, f .fits)) m,
-        same-place k (cap t) (t .len + length s) (t .head),
-        same-pos k (cap t) (t .len + length s) (t .head),
       )
+
+-- Where something stands afterwards, a ring's head stays and a vector has none.
+pub resize-more-done : (t : Tray) (o : Outcome) → invalid ring t ≡ false → (i x : ℕ) (u : List ℕ) → i ≤ cap t → t .len < i
+    → Filled (slotOf (cap t) (t .head)) (t .len) i x (t .slots) u → o ≡ gives 0 0 (t .head) i u → o ≡ does ring (resize i x) t
+resize-more-done t o ok i x u fits h m eo = resize-more ring t o ok i x u fits h m (rw (head-stays t ok i (omega arith)) eo)
+
+pub vector-resize-grown : (t : Tray) (o : Outcome) → invalid vector t ≡ false → (i x : ℕ) (u : List ℕ) → i ≤ cap t → t .len < i
+    → Filled itself (t .len) i x (t .slots) u → o ≡ gives 0 0 0 i u → o ≡ does vector (resize i x) t
+vector-resize-grown t o ok i x u fits h m eo = resize-more vector t o ok i x u fits h m eo

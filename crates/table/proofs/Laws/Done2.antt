@@ -1,12 +1,13 @@
 -- What each call on two containers does where it is done, as `Done` has it for one: o is what is seen, and each premise a fact that the code's steps tell.
-use mathlib.Core.Path.{_≡_}
+use mathlib.Core.Path.{_≡_, _∙_}
 use mathlib.Core.Bool.{false}
 use mathlib.Core.List.{List, _++_}
 use Prim.Native.Nat.{ℕ, _+_, _-_, _≤_}
 use native.Mathlib.Omega.{arith}
 use borrow.Author.Tests.{eq-eqb, le-ltb}
 use lib.ListN.{length, take, drop, length-append, length-take, length-drop}
-use Rattle.slots.specs.Layout.{Kind, ring, vector, place, pos, slotOf, itself, entries}
+use Rattle.slots.specs.Layout.{Kind, ring, vector, place, pos, slotOf, itself, entries, relaid}
+use Rattle.slots.specs.Moves.{moved}
 use Rattle.slots.specs.Shift.{Filled}
 use Rattle.slots.specs.Copy.{Laid}
 use Rattle.slots.proofs.Placing.{Placing, placing}
@@ -15,11 +16,12 @@ use Rattle.slots.proofs.Fills.{fill-none, relaid-take}
 use Rattle.slots.proofs.Lays.{from-on, lay-entries, lay-part, lay-rest, entries-part, entries-rest, lay-plain, lay-none, relaid-append, relaid-fresh, relaid-clear}
 use Rattle.table.specs.Tray.{Tray, cap, list, invalid, Cursor, nowhere}
 use Rattle.table.specs.Calls.{Call2, append, splitOff, clone, fromIter}
-use Rattle.table.specs.Table.{after2, remaining, holding}
+use Rattle.table.specs.Table.{Row2, after2, remaining, holding}
 use Rattle.table.specs.Does.{Outcome2, refused2, headAfter, done2, rowOf2, refusalsOf2, does2}
+use Rattle.table.proofs.Theorems.Carrying.{Carries}
 use Rattle.table.proofs.Laws.Valid.{fit}
 use Rattle.table.proofs.Laws.Refusals.{Clear, clear-of, inside}
-use Rattle.table.proofs.Laws.Done.{Homed, no-head, many, still, as-it-was, same-place, same-pos}
+use Rattle.table.proofs.Laws.Done.{Homed, no-head, head-stays, rested-slots, shifted-plainly, row-carries2, many, still, as-it-was}
 
 -- a call that is done, moves nothing and has no cursor
 abbrev pub gives2 : (value h n : ℕ) → List ℕ → (h2 n2 : ℕ) → List ℕ → Outcome2
@@ -55,23 +57,53 @@ done2-is k k2 t t2 call ok ok2 clear =
     let all : Clear (refusalsOf2 k k2 call t t2) = (ok, (ok2, clear)) in
     clear-of (refused2 t t2 (rowOf2 k k2 call t t2 .given)) (refusalsOf2 k k2 call t t2) (done2 k k2 t t2 (after2 call (list k t) (list k2 t2)) (rowOf2 k k2 call t t2)) all
 
+-- what it gives, with positions counted from the first's own head and the row's of T, as `plainly` has it of one
+abbrev plainly2 : (k k2 : Kind) (t t2 : Tray) → (ls : List ℕ × List ℕ) → Row2 → Outcome2
+plainly2 k k2 t t2 ls r = record {
+  number = 0;
+  value = r .value;
+  moves = moved (place k (cap t) (t .head)) (place k (cap t) (t .head)) (r .carry) (t .len);
+  first = record {
+    head = headAfter k (length (ls .0)) (t .head);
+    len = length (ls .0);
+    slots = relaid (pos k (cap t) (t .head)) (pos k (cap t) (t .head)) (t .len) (ls .0) (t .slots);
+  };
+  second = record {
+    head = headAfter k2 (length (ls .1)) (r .head2);
+    len = length (ls .1);
+    slots = relaid (pos k2 (cap t2) (t2 .head)) (pos k2 (cap t2) (r .head2)) (t2 .len) (ls .1) (t2 .slots);
+  };
+  cursor = r .cursor;
+}
+
+rests2 : (k k2 : Kind) (t t2 : Tray) (ls : List ℕ × List ℕ) (r : Row2) → Carries (r .carry) (list k t) (ls .0) → done2 k k2 t t2 ls r ≡ plainly2 k k2 t t2 ls r
+rests2 k k2 t t2 ls r c =
+    rw (
+      rested-slots k (cap t) (t .head) (t .len) (pos k (cap t) (t .head)) (ls .0) (t .slots),
+      rested-slots k2 (cap t2) (r .head2) (t2 .len) (pos k2 (cap t2) (t2 .head)) (ls .1) (t2 .slots),
+      shifted-plainly k t (ls .0) (t .head) (r .carry) c,
+    )
+
+pub done2-plainly : (k k2 : Kind) (t t2 : Tray) (call : Call2) → invalid k t ≡ false → invalid k2 t2 ≡ false → Clear (rowOf2 k k2 call t t2 .refusals)
+    → does2 k k2 call t t2 ≡ plainly2 k k2 t t2 (after2 call (list k t) (list k2 t2)) (rowOf2 k k2 call t t2)
+done2-plainly k k2 t t2 call ok ok2 clear =
+    done2-is k k2 t t2 call ok ok2 clear ∙ rests2 k k2 t t2 (after2 call (list k t) (list k2 t2)) (rowOf2 k k2 call t t2) (row-carries2 k k2 t t2 call)
+
 module _ (k k2 : Kind) (t t2 : Tray) (o : Outcome2) (ok : invalid k t ≡ false) (ok2 : invalid k2 t2 ≡ false) where
   -- T's positions from head 0 on
   anew : Placing (cap t2) (place k2 (cap t2) 0) (pos k2 (cap t2) 0)
   anew = placing k2 (cap t2) 0 (omega arith)
 
-  pub append-done : (u u2 : List ℕ) → t2 .len ≤ cap t - t .len → Laid (place k (cap t) (t .head)) (t .len) (t2 .len) (list k2 t2) (t .slots) u
+  appends : (u u2 : List ℕ) → t2 .len ≤ cap t - t .len → Laid (place k (cap t) (t .head)) (t .len) (t2 .len) (list k2 t2) (t .slots) u
       → Filled (place k2 (cap t2) (t2 .head)) 0 (t2 .len) 0 (t2 .slots) u2 → o ≡ gives2 0 (headAfter k (t .len + t2 .len) (t .head)) (t .len + t2 .len) u 0 0 u2 → o ≡ does2 k k2 append t t2
-  append-done u u2 room m m2 eo =
+  appends u u2 room m m2 eo =
       let f = fit k t ok in
       let longer : length (list k t ++ list k2 t2) ≡ t .len + t2 .len = simp (length-append, many k t, many k2 t2) in
       cc (
-        done2-is k k2 t t2 append ok ok2 (le-ltb _ _ room, tt),
+        done2-plainly k k2 t t2 append ok ok2 (le-ltb _ _ room, tt),
         eo,
         longer,
         still k t,
-        same-place k (cap t) (t .len + t2 .len) (t .head),
-        same-pos k (cap t) (t .len + t2 .len) (t .head),
         no-head k2 0,
         relaid-append _ _ (t .len) (t2 .len) (list k2 t2) (t .slots) u (f .placed) (many k2 t2) (omega (arith, f .fits)) m,
         relaid-clear _ _ _ _ (t2 .len) (t2 .slots) u2 (fit k2 t2 ok2 .placed) anew m2,
@@ -81,7 +113,7 @@ module _ (k k2 : Kind) (t t2 : Tray) (o : Outcome2) (ok : invalid k t ≡ false)
   pub append-none-done : Homed k t → t2 .len ≡ 0 → o ≡ gives2 0 (t .head) (t .len) (t .slots) 0 0 (t2 .slots) → o ≡ does2 k k2 append t t2
   append-none-done home none eo =
       let sum : t .len + t2 .len ≡ t .len = omega arith in
-      append-done (t .slots) (t2 .slots) (omega arith) (rw none (lay-none _ _ _ _)) (rw none (fill-none _ _ _ _)) (rw (sum, home) eo)
+      appends (t .slots) (t2 .slots) (omega arith) (rw none (lay-none _ _ _ _)) (rw none (fill-none _ _ _ _)) (rw (sum, home) eo)
 
   -- T, which is empty, gets a part of the list
   pub clone-done : Homed k t → (u2 : List ℕ) → t2 .len ≡ 0 → t .len ≤ cap t2 → Laid (place k2 (cap t2) 0) 0 (t .len) (list k t) (t2 .slots) u2
@@ -89,7 +121,7 @@ module _ (k k2 : Kind) (t t2 : Tray) (o : Outcome2) (ok : invalid k t ≡ false)
   clone-done home u2 none room m eo =
       cc (
         home,
-        done2-is k k2 t t2 clone ok ok2 (free t2 none, (le-ltb _ _ room, tt)),
+        done2-plainly k k2 t t2 clone ok ok2 (free t2 none, (le-ltb _ _ room, tt)),
         none,
         eo,
         many k t,
@@ -110,14 +142,12 @@ module _ (k k2 : Kind) (t t2 : Tray) (o : Outcome2) (ok : invalid k t ≡ false)
       let cut : length (take i (list k t)) ≡ i = simp (length-take, many k t) (omega arith) in
       let rest : length (drop i (list k t)) ≡ t .len - i = simp (length-drop, many k t) in
       cc (
-        done2-is k k2 t t2 (splitOff i) ok ok2 (le-ltb _ _ le, (free t2 none, (le-ltb _ _ room, tt))),
+        done2-plainly k k2 t t2 (splitOff i) ok ok2 (le-ltb _ _ le, (free t2 none, (le-ltb _ _ room, tt))),
         none,
         eo,
         cut,
         rest,
         moved-kept (place k (cap t) (t .head)) i (t .len),
-        same-place k (cap t) i (t .head),
-        same-pos k (cap t) i (t .head),
         no-head k2 (t .len - i),
         relaid-take _ _ (t .len) i (t .slots) u (f .placed) (f .fits) le m,
         relaid-fresh (pos k2 (cap t2) (t2 .head)) _ _ (t .len - i) (drop i (list k t)) (t2 .slots) u2 anew rest m2,
@@ -138,7 +168,7 @@ module _ (k : Kind) (t t2 : Tray) (o : Outcome2) (ok : invalid k t ≡ false) (o
   from-iter u2 room m eo =
       let long : length (remaining c (list k t)) ≡ c .back - c .front = simp (length-take, length-drop, many k t) (omega arith) in
       cc (
-        done2-is k vector t t2 (fromIter c) ok ok2 (inside (c .front) (c .back) (t .len) ordered fits, (free t2 none, (le-ltb _ _ room, tt))),
+        done2-plainly k vector t t2 (fromIter c) ok ok2 (inside (c .front) (c .back) (t .len) ordered fits, (free t2 none, (le-ltb _ _ room, tt))),
         none,
         eo,
         long,
@@ -165,11 +195,16 @@ from-iter-done t t2 o ok ok2 c s u2 le fits none home room es m eo =
     rw es (entries-part (cap t) (t .head) (t .len) (c .front) (c .back - c .front) (t .slots) (omega arith)) in
     from-iter ring t t2 o ok ok2 c le fits none home u2 room (lay-plain 0 _ _ (t2 .slots) u2 (omega arith) (rw is m)) eo
 
--- of a ring: the part is the list of a ring whose head is the part's first slot
+-- Of a ring. It keeps its head while entries come; where they go, the part is the list of a ring whose head is the part's first slot.
+pub append-done : (k2 : Kind) (t t2 : Tray) (o : Outcome2) → invalid ring t ≡ false → invalid k2 t2 ≡ false → (u u2 : List ℕ) → t2 .len ≤ cap t - t .len
+    → Laid (slotOf (cap t) (t .head)) (t .len) (t2 .len) (list k2 t2) (t .slots) u → Filled (place k2 (cap t2) (t2 .head)) 0 (t2 .len) 0 (t2 .slots) u2
+    → o ≡ gives2 0 (t .head) (t .len + t2 .len) u 0 0 u2 → o ≡ does2 ring k2 append t t2
+append-done k2 t t2 o ok ok2 u u2 room m m2 eo = appends ring k2 t t2 o ok ok2 u u2 room m m2 (rw (head-stays t ok (t .len + t2 .len) (omega arith)) eo)
+
 pub split-done : (k2 : Kind) (t t2 : Tray) (o : Outcome2) → invalid ring t ≡ false → invalid k2 t2 ≡ false → (i s : ℕ) (u u2 : List ℕ) → i ≤ t .len
     → t2 .len ≡ 0 → t .len - i ≤ cap t2 → s ≡ slotOf (cap t) (t .head) i → Filled (slotOf (cap t) (t .head)) i (t .len) 0 (t .slots) u
     → Laid (place k2 (cap t2) 0) 0 (t .len - i) (entries (slotOf (cap t) s) (t .len - i) (t .slots)) (t2 .slots) u2
-    → o ≡ gives2 0 (t .head) i u 0 (t .len - i) u2 → o ≡ does2 ring k2 (splitOff i) t t2
+    → o ≡ gives2 0 (headAfter ring i (t .head)) i u 0 (t .len - i) u2 → o ≡ does2 ring k2 (splitOff i) t t2
 split-done k2 t t2 o ok ok2 i s u u2 le none room es m m2 eo =
     split ring k2 t t2 o ok ok2 i u u2 le none room m (rw (entries-rest (cap t) (t .head) (t .len) i (t .slots) le, ← es) m2) eo
 
@@ -177,7 +212,7 @@ split-done k2 t t2 o ok ok2 i s u u2 le none room es m m2 eo =
 module _ (t t2 : Tray) (o : Outcome2) (ok : invalid vector t ≡ false) (ok2 : invalid vector t2 ≡ false) where
   pub vector-append-done : (u u2 : List ℕ) → t2 .len ≤ cap t - t .len → Laid itself (t .len) (t2 .len) (t2 .slots) (t .slots) u
       → Filled itself 0 (t2 .len) 0 (t2 .slots) u2 → o ≡ gives2 0 0 (t .len + t2 .len) u 0 0 u2 → o ≡ does2 vector vector append t t2
-  vector-append-done u u2 room m m2 eo = append-done vector vector t t2 o ok ok2 u u2 room (lay-entries _ _ _ _ _ _ m) m2 eo
+  vector-append-done u u2 room m m2 eo = appends vector vector t t2 o ok ok2 u u2 room (lay-entries _ _ _ _ _ _ m) m2 eo
 
   pub vector-clone-done : Homed vector t → (u2 : List ℕ) → t2 .len ≡ 0 → t .len ≤ cap t2 → Laid itself 0 (t .len) (t .slots) (t2 .slots) u2
       → o ≡ gives2 0 (t .head) (t .len) (t .slots) 0 (t .len) u2 → o ≡ does2 vector vector clone t t2

@@ -17,6 +17,7 @@ use Rattle.table.specs.Does.{Outcome, refused, refused2, headAfter, rela
 use Rattle.table.specs.Ledger.{Rule, Rule2, leaving, rule, rule2, ifDone, goesBy, goesBy2}
 use Rattle.table.specs.Promise.{Promise, Promise2, promise, promise2, arrival, showing, unless, unless2, Good, Holds, Keeps, Keeps2, Kept, Kept2, Arrives}
 use Rattle.table.proofs.Laws.Refusals.{Clear, either, above-zero}
+use Rattle.table.proofs.Laws.Done.{head-in}
 use Rattle.table.proofs.Laws.Rows.{kept, made-room, kept2, headed, headed2}
 
 -- The slots that a done call leaves hold the list l, wherever the ring wraps.
@@ -26,10 +27,6 @@ module _ (k : Kind) (t : Tray) (l : List ℕ) (head : ℕ) (ok : headAfter k (le
 
   pub relay-holds : Holds k (relay k t l head) l
   relay-holds = record { good = record { fits = rw length-relaid room; headed = rw length-relaid ok }; listed = relay-list }
-
-pub head-in : (k : Kind) (n h m : ℕ) → h ≤ m → headAfter k n h ≤ m
-head-in ring n h m p = p
-head-in vector n h m p = omega arith
 
 -- A refusal keeps any rule, whatever its number: it leaves all as it was.
 pub refused-keeps : (r : Rule) (k : Kind) (t : Tray) (u : Cursor) (number : ℕ) → 0 < number → Good t → Keeps (goesBy number r) k (list k t) (refused t u number)

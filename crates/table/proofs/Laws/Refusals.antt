@@ -5,7 +5,7 @@ use Prim.Native.Nat.{ℕ, suc, _≤_, _<_}
 use mathlib.Core.Bool.{Bool, true, false, not, cond, _&&_}
 use mathlib.Core.List.{List, [], _∷_}
 use native.Mathlib.Omega.{arith}
-use borrow.Author.Tests.{eq-eqb, ne-eqb, le-leb, lt-leb, lt-ltb, le-ltb}
+use borrow.Author.Tests.{eq-eqb, ne-eqb, le-leb, lt-leb, lt-ltb, le-ltb, leb-false, ltb-false, eqb-false}
 use Rattle.table.specs.Tray.{within}
 use Rattle.table.specs.Table.{Refusal, firstInvalid, secondInvalid, beyond, empty, taken, full, numberOf}
 use Rattle.table.specs.Does.{firstRefusal}
@@ -43,6 +43,9 @@ right-fails false b p = refl
 pub ruleset tests = (flag, not-holds, not-fails, both-hold, left-fails, right-fails, eq-eqb, ne-eqb, le-leb, lt-leb, lt-ltb, le-ltb)
 
 pub ruleset refusals = (hit, skip, tests)
+
+-- what the refusals that do not apply tell `omega`
+pub ruleset passed-tests = (arith, leb-false, ltb-false, eqb-false)
 
 -- a ≤ b ≤ n
 pub inside : (a b n : ℕ) → a ≤ b → b ≤ n → not (within a b n) ≡ false

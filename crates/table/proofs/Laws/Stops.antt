@@ -3,10 +3,12 @@
 use mathlib.Core.Path.{_≡_, refl, sym, ap, _∙_}
 use mathlib.Core.Bool.{Bool, true, false, not, _&&_, _||_}
 use Prim.Native.Nat.{ℕ, _+_, _-_, _^_, _≤_, _<_}
+use mathlib.Core.Logic.{⊎-elim}
 use native.Mathlib.Omega.{arith}
-use borrow.Author.Tests.{ltb-true, ltb-false, leb-true, le-leb, eq-eqb, ne-eqb, not-true, not-false}
+use borrow.Author.Tests.{ltb-true, ltb-false, leb-true, lt-ltb, le-ltb, le-leb, eqb-true, eq-eqb, ne-eqb, not-true, not-false}
 use lib.Dec.{ltb, leb, eqb}
 use Rattle.slots.specs.Layout.{Kind, ring, vector}
+use Rattle.slots.proofs.Words.{below?}
 use Rattle.table.specs.Tray.{valid, within}
 use Rattle.table.specs.Tested.{gate, Stopped, Strays}
 use Rattle.table.proofs.Laws.Valid.{Valid, and-left, and-right, gated}
@@ -23,9 +25,23 @@ after : (t x y : Bool) → (t ≡ true → x ≡ y) → t && x ≡ t && y
 after true x y h = h refl
 after false x y h = refl
 
-or-false : (b : Bool) → b ≡ b || false
-or-false true = refl
-or-false false = refl
+-- a head of 0 is right wherever it can be; any other has a slot, and an entry in the ring
+heads : (home some inside none : Bool) → (home ≡ true → inside || none ≡ true)
+    → home || (some && inside) ≡ (inside || (none && home)) && (some || home)
+heads true some true none h = or-true some
+  where
+    or-true : (b : Bool) → true ≡ b || true
+    or-true true = refl
+    or-true false = refl
+heads true true false true h = refl
+heads true false false true h = refl
+heads true some false false h = let z : _≡_ {A = Bool} false true = h refl in cc
+heads false true true none h = refl
+heads false true false true h = refl
+heads false true false false h = refl
+heads false false true none h = refl
+heads false false false true h = refl
+heads false false false false h = refl
 
 turned : (e b a : Bool) → e && (b && a) ≡ (b && e) && a
 turned true true a = refl
@@ -33,16 +49,37 @@ turned true false a = refl
 turned false true a = refl
 turned false false a = refl
 
--- where there is a slot, only the head's bound is left of a ring's state
-head-alone : (c h : ℕ) → 0 < c → ltb h c ≡ ltb h c || (eqb c 0 && eqb h 0)
-head-alone c h some = rw (ne-eqb c 0 (λ e. omega arith)) (or-false (ltb h c))
+slot-or-none : (c h : ℕ) → eqb h 0 ≡ true → ltb h c || eqb c 0 ≡ true
+slot-or-none c h e = ⊎-elim (λ (lt : h < c). rw (lt-ltb h c lt)) (λ (ge : c ≤ h). rw (le-ltb h c ge, eq-eqb c 0 (omega (arith, eqb-true h 0 e)))) (below? h c)
+
+pub ring-short : (c h n : ℕ) → not (leb c 4096 && (leb n c && (eqb h 0 || (ltb 0 n && ltb h c)))) ≡ not (valid ring c h n)
+unfolding valid
+ring-short c h n = ap (λ z. not (leb c 4096 && (leb n c && z))) (heads (eqb h 0) (ltb 0 n) (ltb h c) (eqb c 0) (slot-or-none c h))
+
+-- where there is a slot, only the head's bound and the home of an empty ring are left of a ring's state; where there is an entry, only the bound
+head-alone : (c h n : ℕ) → 0 < c → ltb h c && (ltb 0 n || eqb h 0) ≡ (ltb h c || (eqb c 0 && eqb h 0)) && (ltb 0 n || eqb h 0)
+head-alone c h n some = rw (ne-eqb c 0 (λ e. omega arith)) (ap (λ z. z && (ltb 0 n || eqb h 0)) (or-false (ltb h c)))
+  where
+    or-false : (b : Bool) → b ≡ b || false
+    or-false true = refl
+    or-false false = refl
+
+bound-alone : (c h n : ℕ) → 0 < c → 0 < n → ltb h c ≡ (ltb h c || (eqb c 0 && eqb h 0)) && (ltb 0 n || eqb h 0)
+bound-alone c h n some entry =
+    rw (lt-ltb 0 n entry, ne-eqb c 0 (λ e. omega arith)) (both-false (ltb h c))
+  where
+    both-false : (b : Bool) → b ≡ (b || false) && true
+    both-false true = refl
+    both-false false = refl
 
 -- a condition that only a container with an entry meets
 ring-held : (c h n : ℕ) (q : Bool) → (q ≡ true → 0 < n) → not ((leb c 4096 && (leb n c && ltb h c)) && q) ≡ not (valid ring c h n && q)
 unfolding valid
 ring-held c h n q some =
     ap not
-    (under _ _ q (λ a. ap (λ z. leb c 4096 && z) (after (leb n c) _ _ (λ b. head-alone c h (omega (arith, some a, leb-true n c b))))))
+    (under _ _ q (λ a.
+    let entry = some a in
+    ap (λ z. leb c 4096 && z) (after (leb n c) _ _ (λ b. bound-alone c h n (omega (arith, leb-true n c b)) entry))))
 
 pub ring-lacks : (c h n i : ℕ) → not ((leb c 4096 && (leb n c && ltb h c)) && ltb i n) ≡ not (valid ring c h n && ltb i n)
 ring-lacks c h n i = ring-held c h n (ltb i n) (λ q. omega (arith, ltb-true i n q))
@@ -60,11 +97,11 @@ vector-held c n q = ap not (turned (leb c 4096) (leb n c) q)
 fits-too : (c n : ℕ) (x y : Bool) → n < c → x ≡ y → x ≡ leb n c && y
 fits-too c n x y lt e = rw (le-leb n c (omega arith)) e
 
-pub ring-roomy : (c h n : ℕ) → not ((leb c 4096 && ltb h c) && ltb n c) ≡ not (valid ring c h n && ltb n c)
+pub ring-roomy : (c h n : ℕ) → not ((leb c 4096 && (ltb h c && (ltb 0 n || eqb h 0))) && ltb n c) ≡ not (valid ring c h n && ltb n c)
 unfolding valid
 ring-roomy c h n =
     ap not
-    (under _ _ (ltb n c) (λ a. let lt = ltb-true n c a in ap (λ z. leb c 4096 && z) (fits-too c n _ _ lt (head-alone c h (omega arith)))))
+    (under _ _ (ltb n c) (λ a. let lt = ltb-true n c a in ap (λ z. leb c 4096 && z) (fits-too c n _ _ lt (head-alone c h n (omega arith)))))
 
 pub vector-roomy : (c n : ℕ) → not (leb c 4096 && ltb n c) ≡ not (valid vector c 0 n && ltb n c)
 unfolding valid

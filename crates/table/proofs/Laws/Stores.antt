@@ -19,17 +19,15 @@ use Rattle.table.specs.Table.{headBack}
 use Rattle.table.specs.Does.{Outcome, gives, headAfter, does}
 use Rattle.table.proofs.Laws.Valid.{fit, ring-inside}
 use Rattle.table.proofs.Theorems.Moves.{remove-high, insert-low, remove-low}
-use Rattle.table.proofs.Laws.Done.{Homed, many, still, at, longer, shorter, same-place, same-pos}
+use Rattle.table.proofs.Laws.Done.{Homed, head-kept, head-stays, done-plainly, many, still, at, longer, shorter}
 
 module _ (k : Kind) (t : Tray) (o : Outcome) (ok : invalid k t ≡ false) where
   pub write-done : Homed k t → (i x s : ℕ) → i < t .len → s ≡ place k (cap t) (t .head) i
       → o ≡ gives (getD (t .slots) s 0) 0 (t .head) (t .len) (set (t .slots) s x) → o ≡ does k (write i x) t
-  unfolding does
   write-done home i x s h es eo =
       let f = fit k t ok in
       cc (
-        ok,
-        lt-leb _ _ h,
+        done-plainly k t (write i x) ok (lt-leb _ _ h, tt),
         eo,
         home,
         es,
@@ -40,34 +38,28 @@ module _ (k : Kind) (t : Tray) (o : Outcome) (ok : invalid k t ≡ false) where
         relaid-write _ _ (t .len) (t .slots) (f .placed) (f .fits) i x h,
       )
 
-  pub push-done : (x s : ℕ) → t .len < cap t → s ≡ place k (cap t) (t .head) (t .len)
+  pushes : (x s : ℕ) → t .len < cap t → s ≡ place k (cap t) (t .head) (t .len)
       → o ≡ gives 0 0 (headAfter k (t .len + 1) (t .head)) (t .len + 1) (set (t .slots) s x) → o ≡ does k (push x) t
-  unfolding does
-  push-done x s room es eo =
+  pushes x s room es eo =
       let f = fit k t ok in
       let longer : length (list k t ++ (x ∷ [])) ≡ t .len + 1 = simp (length-append, many k t) (omega arith) in
       cc (
-        ok,
-        lt-leb _ _ room,
+        done-plainly k t (push x) ok (lt-leb _ _ room, tt),
         eo,
         es,
         longer,
         still k t,
         insert-last (list k t) (t .len) x (many k t),
         insert-back _ _ (t .len) (t .len) (t .slots) (t .slots) (f .placed) x (omega arith) room (up-none _ _ _),
-        same-place k (cap t) (t .len + 1) (t .head),
-        same-pos k (cap t) (t .len + 1) (t .head),
       )
 
   pub pop-done : (s : ℕ) → (t .len ≡ 0 → ⊥) → s ≡ place k (cap t) (t .head) (t .len - 1)
       → o ≡ gives (getD (t .slots) s 0) 0 (headAfter k (t .len - 1) (t .head)) (t .len - 1) (set (t .slots) s 0) → o ≡ does k pop t
-  unfolding does
   pop-done s any es eo =
       let f = fit k t ok in
       let none : t .len - 1 - (t .len - 1) ≡ 0 = omega arith in
       cc (
-        ok,
-        ne-eqb _ _ any,
+        done-plainly k t pop ok (ne-eqb _ _ any, tt),
         eo,
         es,
         at k t (t .len - 1) s (omega arith) es,
@@ -77,46 +69,45 @@ module _ (k : Kind) (t : Tray) (o : Outcome) (ok : invalid k t ≡ false) where
         remove-last (list k t) (t .len) (many k t) (omega arith),
         many k t,
         remove-back _ _ (t .len) (t .len - 1) (t .slots) (t .slots) (f .placed) (omega arith) (f .fits) (down-none _ _ _),
-        same-place k (cap t) (t .len - 1) (t .head),
-        same-pos k (cap t) (t .len - 1) (t .head),
       )
 
 -- A vector's position is its slot, so its laws need no premise for the slot.
 pub vector-push-done : (t : Tray) (o : Outcome) → invalid vector t ≡ false → (x : ℕ) → t .len < cap t
     → o ≡ gives 0 0 0 (t .len + 1) (set (t .slots) (t .len) x) → o ≡ does vector (push x) t
-vector-push-done t o ok x room eo = push-done vector t o ok x (t .len) room refl eo
+vector-push-done t o ok x room eo = pushes vector t o ok x (t .len) room refl eo
 
 pub vector-pop-done : (t : Tray) (o : Outcome) → invalid vector t ≡ false → (t .len ≡ 0 → ⊥)
     → o ≡ gives (getD (t .slots) (t .len - 1) 0) 0 0 (t .len - 1) (set (t .slots) (t .len - 1) 0) → o ≡ does vector pop t
 vector-pop-done t o ok any eo = pop-done vector t o ok (t .len - 1) any refl eo
 
--- A ring's front: the head goes one back, or one on.
+-- A ring's back, where something stands afterwards; and its front: the head goes one back, or one on.
 module _ (t : Tray) (o : Outcome) (ok : invalid ring t ≡ false) where
+  pub push-done : (x s : ℕ) → t .len < cap t → s ≡ slotOf (cap t) (t .head) (t .len)
+      → o ≡ gives 0 0 (t .head) (t .len + 1) (set (t .slots) s x) → o ≡ does ring (push x) t
+  push-done x s room es eo = pushes ring t o ok x s room es (rw (head-stays t ok (t .len + 1) (omega arith)) eo)
+
   pub push-front-done : (x s : ℕ) → t .len < cap t → s ≡ slotOf (cap t) (t .head) (cap t - 1)
       → o ≡ gives 0 0 s (t .len + 1) (set (t .slots) s x) → o ≡ does ring (pushFront x) t
-  unfolding does
   push-front-done x s room es eo =
       let lt = ring-inside t ok (omega arith) in
       cc (
-        ok,
-        lt-leb _ _ room,
+        done-plainly ring t (pushFront x) ok (lt-leb _ _ room, tt),
         eo,
         es,
         longer ring t 0 x (omega arith),
+        head-kept (t .len + 1) s (λ e. omega arith),
         insert-low t ok 0 (omega arith) room,
         slot-zero (cap t) (headBack (cap t) (t .head)) (slot-inside (cap t) (t .head) (cap t - 1) lt),
         insert-front (t .head) (t .len) 0 (t .slots) (t .slots) lt x (omega arith) room (down-none _ _ _),
       )
 
   pub pop-front-done : (h : ℕ) → (t .len ≡ 0 → ⊥) → h ≡ slotOf (cap t) (t .head) 1
-      → o ≡ gives (getD (t .slots) (t .head) 0) 0 h (t .len - 1) (set (t .slots) (t .head) 0) → o ≡ does ring popFront t
-  unfolding does
+      → o ≡ gives (getD (t .slots) (t .head) 0) 0 (headAfter ring (t .len - 1) h) (t .len - 1) (set (t .slots) (t .head) 0) → o ≡ does ring popFront t
   pop-front-done h any eh eo =
       let f = fit ring t ok in
       let lt = ring-inside t ok (omega arith) in
       cc (
-        ok,
-        ne-eqb _ _ any,
+        done-plainly ring t popFront ok (ne-eqb _ _ any, tt),
         eo,
         eh,
         at ring t 0 (slotOf (cap t) (t .head) 0) (omega arith) refl,

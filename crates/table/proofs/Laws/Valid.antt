@@ -3,18 +3,19 @@ use mathlib.Core.Path.{_≡_, refl, sym, _∙_}
 use mathlib.Core.Bool.{Bool, true, false, not, _&&_, _||_}
 use Prim.Native.Nat.{ℕ, _+_, _-_, _^_, _≤_, _<_}
 use native.Mathlib.Omega.{arith}
-use borrow.Author.Tests.{ltb-true, leb-true, eqb-true, not-false}
+use borrow.Author.Tests.{ltb-true, leb-true, eqb-true, le-ltb, not-false}
 use lib.Dec.{ltb, leb, eqb}
 use Rattle.slots.specs.Layout.{Kind, ring, vector, place, pos}
 use Rattle.slots.proofs.Placing.{Placing, placing}
 use Rattle.table.specs.Tray.{Tray, cap, valid, invalid}
 use Rattle.table.specs.Tested.{gate, Tested}
 
--- h ≤ c - 1 says h < c, or c = h = 0
+-- h ≤ c - 1 says h < c, or c = h = 0; an empty ring is at home
 pub record Valid (c h n : ℕ) : Type 0 where
   pub small : c ≤ 4096
   pub fits : n ≤ c
   pub inside : h ≤ c - 1
+  pub home : n ≡ 0 → h ≡ 0
 
 -- the two halves of a test that holds
 pub and-left : (a b : Bool) → a && b ≡ true → a ≡ true
@@ -29,18 +30,27 @@ head-inside : (c h : ℕ) (l : Bool) → ltb h c ≡ l → l || (eqb c 0 && eqb 
 head-inside c h true e q = omega (arith, ltb-true h c e)
 head-inside c h false e q = omega (arith, eqb-true h 0 (and-right (eqb c 0) _ q))
 
+at-home : (h n : ℕ) → ltb 0 n || eqb h 0 ≡ true → n ≡ 0 → h ≡ 0
+at-home h n q e = eqb-true h 0 (rw (le-ltb 0 n (omega arith)) at q)
+
 pub ring-facts : (c h n : ℕ) → not (valid ring c h n) ≡ false → Valid c h n
 unfolding valid
 ring-facts c h n ok =
     let e = not-false (valid ring c h n) ok in
     let rest = and-right (leb c 4096) _ e in
-    record { small = leb-true c 4096 (and-left _ _ e); fits = leb-true n c (and-left _ _ rest); inside = head-inside c h _ refl (and-right (leb n c) _ rest) }
+    let heads = and-right (leb n c) _ rest in
+    record {
+      small = leb-true c 4096 (and-left _ _ e);
+      fits = leb-true n c (and-left _ _ rest);
+      inside = head-inside c h _ refl (and-left _ _ heads);
+      home = at-home h n (and-right (ltb h c || (eqb c 0 && eqb h 0)) _ heads);
+    }
 
 pub vector-facts : (c n : ℕ) → not (valid vector c 0 n) ≡ false → Valid c 0 n
 unfolding valid
 vector-facts c n ok =
     let e = not-false (valid vector c 0 n) ok in
-    record { small = leb-true c 4096 (and-right (leb n c) _ e); fits = leb-true n c (and-left _ _ e); inside = omega arith }
+    record { small = leb-true c 4096 (and-right (leb n c) _ e); fits = leb-true n c (and-left _ _ e); inside = omega arith; home = λ none. refl }
 
 -- what a valid tray tells
 pub record Fit (k : Kind) (t : Tray) : Type 0 where

@@ -19,7 +19,7 @@ use Rattle.table.proofs.Laws.Valid.{fit}
 use Rattle.table.proofs.Laws.Done.{Homed}
 use Rattle.table.proofs.Laws.Stores.{write-done}
 use Rattle.table.proofs.Laws.Shifted.{swap-last-done}
-use Rattle.table.proofs.Laws.Cut.{resize-more-done, resize-same-done}
+use Rattle.table.proofs.Laws.Cut.{vector-resize-grown, resize-same-done}
 
 module _ (t : Tray) (o : Outcome) (ok : invalid vector t ≡ false) where
   pub vector-write-done : Homed vector t → (i x : ℕ) → i < t .len → o ≡ gives (getD (t .slots) i 0) 0 (t .head) (t .len) (set (t .slots) i x)
@@ -37,7 +37,7 @@ module _ (t : Tray) (o : Outcome) (ok : invalid vector t ≡ false) where
   vector-resize-more-done home i x u fits h m eo = ⊎-elim more same (below? (t .len) i)
     where
       more : t .len < i → o ≡ does vector (resize i x) t
-      more lt = resize-more-done vector t o ok i x u fits lt m eo
+      more lt = vector-resize-grown t o ok i x u fits lt m eo
 
       same : i ≤ t .len → o ≡ does vector (resize i x) t
       same le =

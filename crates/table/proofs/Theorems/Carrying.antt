@@ -12,23 +12,15 @@ use lib.ListN.{length, getD, take, drop, replicate, length-append, length-take, 
 use lib.Seq.{drop-nil, getD-take, getD-set-same, getD-set-other}
 use borrow.Author.Tests.{lt-ltb, le-ltb, eq-eqb, ne-eqb}
 use Rattle.slots.specs.Lists.{insertAt, removeAt, update}
-use Rattle.slots.specs.Layout.{Kind, ring, vector, place, pos, itself}
+use Rattle.slots.specs.Layout.{itself}
 use Rattle.slots.specs.Moves.{Carried, to, gone, stay, inserted, removed, swapped, replaced, kept}
 use Rattle.slots.proofs.Words.{below?, same?, length-insert, insert-below, insert-above, length-remove, remove-below, remove-above, remove-last}
-use Rattle.slots.proofs.Placing.{Placing, placing, entry}
-use Rattle.slots.proofs.Relaid.{entries-relaid}
 use Rattle.slots.proofs.Moves.{removed-low, removed-here, removed-high, swapped-here, swapped-last, swapped-other}
-use Rattle.table.specs.Tray.{Tray, cap, list, invalid}
 use Rattle.table.specs.Calls.{Call, push, pushFront, pop, popFront, insert, remove, swapRemove, write, truncate, resize, clear, extend, look}
 use Rattle.table.specs.Calls.{Call2, append, splitOff, clone, fromIter, same}
 use Rattle.table.specs.Table.{Row, row, row2, after, after2}
-use Rattle.table.specs.Does.{headAfter, relay, rowOf, rowOf2, refusalsOf2, refused2, done2, does, does2}
 use Rattle.table.specs.Ledger.{Flow, flow}
-use Rattle.table.proofs.Laws.Refusals.{Clear, clear-of}
-use Rattle.table.proofs.Laws.Valid.{fit, ring-facts}
-use Rattle.table.proofs.Laws.Done.{done-is, many, at}
-use Rattle.table.proofs.Theorems.Moves.{passed-tests}
-use Rattle.table.proofs.Laws.Rows as rows
+use Rattle.table.proofs.Laws.Refusals.{Clear, passed-tests}
 
 -- the carrying is true of the lists before and after
 pub record Carries (carry : ℕ → Carried) (before after : List ℕ) : Type 0 where
@@ -148,49 +140,13 @@ carried2 c h c2 h2 clone l l2 = same-true l
 carried2 c h c2 h2 (fromIter u) l l2 = same-true l
 carried2 c h c2 h2 same l l2 = same-true l
 
--- IN THE SLOTS: an entry that is carried stands in the slot of its new position, wherever the ring wraps.
-stands : (k : Kind) (t : Tray) (l : List ℕ) (head : ℕ)
-    → Placing (cap t) (place k (cap t) (headAfter k (length l) head)) (pos k (cap t) (headAfter k (length l) head)) → length l ≤ cap t
-    → (p : ℕ) → p < length l → getD (relay k t l head .slots) (place k (cap t) (headAfter k (length l) head) p) 0 ≡ getD l p 0
-stands k t l head placed room p h = sym (entry _ (length l) _ p h) ∙ ap (λ z. getD z p 0) (entries-relaid _ _ _ (t .len) l (t .slots) placed room)
-
--- the head afterwards is one that positions are counted from
-headed-after : (k : Kind) (t : Tray) → invalid k t ≡ false → (n h : ℕ) → (t .head ≤ cap t - 1 → h ≤ cap t - 1)
-    → Placing (cap t) (place k (cap t) (headAfter k n h)) (pos k (cap t) (headAfter k n h))
-headed-after ring t ok n h f = placing ring (cap t) h (f (ring-facts _ _ _ ok .inside))
-headed-after vector t ok n h f = placing vector (cap t) 0 (omega arith)
-
-pub carried-slots : (k : Kind) (t : Tray) (call : Call) → invalid k t ≡ false → Clear (rowOf k call t .refusals)
-    → (j p : ℕ) → j < t .len → rowOf k call t .carry j ≡ to p
-    → getD (does k call t .tray .slots) (place k (cap t) (does k call t .tray .head) p) 0 ≡ getD (t .slots) (place k (cap t) (t .head) j) 0
-carried-slots k t call ok none j p h e =
-    let l : List ℕ = list k t in
-    let fits : length l ≤ cap t = omega (arith, many k t, fit k t ok) in
-    let clear-on : Clear (on (cap t) (t .head) l call .refusals) = rw (many k t) none in
-    let c : Carries (rowOf k call t .carry) l (after call l) = rw (many k t) at (carried (cap t) (t .head) l call clear-on) in
-    let room = rows.kept 0 (cap t) (t .head) call l fits clear-on .room in
-    let head : t .head ≤ cap t - 1 → rowOf k call t .head ≤ cap t - 1 = λ i. rw (many k t) at (rows.headed call (cap t) (t .head) l i fits clear-on) in
-    let lt : j < length l = omega (arith, many k t) in
-    rw (done-is k t call ok none)
-    (stands k t (after call l) (rowOf k call t .head) (headed-after k t ok _ _ head) room p (c .inside j p lt e) ∙ c .entry j p lt e ∙ at k t j _ h refl)
-
--- of the first of two
-pub carried-slots2 : (k k2 : Kind) (t t2 : Tray) (call : Call2) → invalid k t ≡ false → invalid k2 t2 ≡ false → Clear (rowOf2 k k2 call t t2 .refusals)
-    → (j p : ℕ) → j < t .len → rowOf2 k k2 call t t2 .carry j ≡ to p
-    → getD (does2 k k2 call t t2 .first .slots) (place k (cap t) (does2 k k2 call t t2 .first .head) p) 0 ≡ getD (t .slots) (place k (cap t) (t .head) j) 0
-unfolding does2
-carried-slots2 k k2 t t2 call ok ok2 none j p h e =
-    let l : List ℕ = list k t in
-    let l2 : List ℕ = list k2 t2 in
-    let clear-on : Clear (row2 (cap t) (t .head) (length l) l (cap t2) (t2 .head) (length l2) l2 call .refusals) = rw (many k t, many k2 t2) none in
-    let c : Carries (rowOf2 k k2 call t t2 .carry) l (after2 call l l2 .0) = rw (many k t, many k2 t2) at (carried2 (cap t) (t .head) (cap t2) (t2 .head) call l l2) in
-    let fits : length l ≤ cap t = omega (arith, many k t, fit k t ok) in
-    let fits2 : length l2 ≤ cap t2 = omega (arith, many k2 t2, fit k2 t2 ok2) in
-    let room = rows.kept2 0 (cap t) (t .head) (cap t2) (t2 .head) call l l2 fits fits2 clear-on .room in
-    let lt : j < length l = omega (arith, many k t) in
-    let all : Clear (refusalsOf2 k k2 call t t2) = (ok, (ok2, none)) in
-    rw (clear-of (refused2 t t2 (rowOf2 k k2 call t t2 .given)) (refusalsOf2 k k2 call t t2) (done2 k k2 t t2 (after2 call l l2) (rowOf2 k k2 call t t2)) all)
-    (stands k t (after2 call l l2 .0) (t .head) (headed-after k t ok _ _ (λ i. i)) room p (c .inside j p lt e) ∙ c .entry j p lt e ∙ at k t j _ h refl)
+-- where nothing is left, nothing was carried
+pub none-carried : (carry : ℕ → Carried) (l l′ : List ℕ) → Carries carry l l′ → length l′ ≡ 0 → (j : ℕ) → j < length l → carry j ≡ gone
+none-carried carry l l′ c none j h = go (carry j) refl
+  where
+    go : (w : Carried) → carry j ≡ w → w ≡ gone
+    go (to p) e = absurd (omega (arith, c .inside j p h e))
+    go gone e = refl
 
 -- THOSE THAT ARE NOT CARRIED: the entries that a carrying leaves out, in their order.
 abbrev pub unlessTo : Carried → ℕ → List ℕ → List ℕ

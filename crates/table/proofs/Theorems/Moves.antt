@@ -6,7 +6,7 @@ use mathlib.Core.Logic.{⊎-elim}
 use mathlib.Core.List.{List}
 use Prim.Native.Nat.{ℕ, _+_, _-_, min, _≤_, _<_}
 use native.Mathlib.Omega.{arith}
-use borrow.Author.Tests.{lt-leb, lt-ltb, le-ltb, eq-eqb, ne-eqb, eqb-false, leb-false, ltb-false}
+use borrow.Author.Tests.{lt-leb, lt-ltb, le-ltb, eq-eqb, ne-eqb}
 use lib.Dec.{ltb, leb, eqb}
 use lib.ListN.{length}
 use Rattle.slots.specs.Count.{tally}
@@ -15,19 +15,16 @@ use Rattle.slots.specs.Moves.{moved, inserted, removed, swapped, elsewhere}
 use Rattle.slots.proofs.Words.{below?, same?}
 use Rattle.slots.proofs.Placing.{placing, one-slot, slot-inside, slot-back, slot-on}
 use Rattle.slots.proofs.Moves.{moved-each, tally-before, tally-from, tally-past, insert-low-each, insert-high-each, remove-low-each, remove-high-each}
-use Rattle.slots.proofs.Moves.{moved-stay, moved-kept, moved-none, moved-replaced, swap-moves-none, swap-moves-one}
+use Rattle.slots.proofs.Moves.{moved-stay, moved-kept, moved-none, moved-replaced, swap-moves-none, swap-moves-one, removed-here}
 use Rattle.table.specs.Tray.{Tray, cap, list, valid, invalid, nowhere}
 use Rattle.table.specs.Calls.{Call, push, pushFront, pop, popFront, insert, remove, swapRemove, write, truncate, resize, clear, extend, look, has}
 use Rattle.table.specs.Calls.{Call2, append, splitOff, clone, fromIter, same, Making}
 use Rattle.table.specs.Table.{headBack, headOn, after, after2, begins, makes}
 use Rattle.table.specs.Does.{Outcome, Outcome2, refused, refused2, headAfter, rowOf, rowOf2, refusalsOf, refusalsOf2, refusalsMade, done, done2, does, does2, bare, made}
 use Rattle.table.specs.Ledger.{ifDone}
-use Rattle.table.proofs.Laws.Refusals.{Clear, either, if-refused}
+use Rattle.table.proofs.Laws.Refusals.{Clear, either, if-refused, passed-tests}
 use Rattle.table.proofs.Laws.Valid.{fit, ring-facts, vector-facts, ring-inside}
-use Rattle.table.proofs.Laws.Done.{done-is, same-place}
-
--- what the refusals that do not apply tell `omega`
-pub ruleset passed-tests = (arith, leb-false, ltb-false, eqb-false)
+use Rattle.table.proofs.Laws.Done.{done-is, done-plainly, shifted-plainly, row-carries, row-carries2, head-kept, longer, shorter}
 
 -- where the head stays, the entries from i on, or those after i, take other slots
 module _ (k : Kind) (t : Tray) (ok : invalid k t ≡ false) where
@@ -76,21 +73,28 @@ module _ (t : Tray) (ok : invalid ring t ≡ false) where
   pub remove-low : (i : ℕ) → i < t .len → moved (slotOf (cap t) (t .head)) (slotOf (cap t) (headOn (cap t) (t .head))) (removed i) (t .len) ≡ i
   remove-low i h = moved-each _ _ _ (t .len) _ (remove-each-low i h) ∙ tally-before (t .len) i (omega arith)
 
-  pub insert-moves : (i x : ℕ) → i ≤ t .len → t .len < cap t → does ring (insert i x) t .moves ≡ min i (t .len - i)
-  unfolding does
-  insert-moves i x fits room =
-      rw (ok, le-ltb _ _ fits, lt-leb _ _ room) (⊎-elim
+  -- from the row's head, on whichever side it is
+  insert-moved : (i x : ℕ) → i ≤ t .len → t .len < cap t
+      → moved (slotOf (cap t) (t .head)) (slotOf (cap t) (rowOf ring (insert i x) t .head)) (inserted i) (t .len) ≡ min i (t .len - i)
+  insert-moved i x fits room =
+      ⊎-elim
       (λ (near : i < t .len - i). rw (lt-ltb _ _ near) (insert-low i fits room ∙ omega arith))
       (λ (far : t .len - i ≤ i). rw (le-ltb _ _ far) (insert-high ring t ok i fits room ∙ omega arith))
-      (below? i (t .len - i)))
+      (below? i (t .len - i))
 
-  pub remove-moves : (i : ℕ) → i < t .len → does ring (remove i) t .moves ≡ min i (t .len - 1 - i)
-  unfolding does
-  remove-moves i fits =
-      rw (ok, lt-leb _ _ fits) (⊎-elim
+  remove-moved : (i : ℕ) → i < t .len
+      → moved (slotOf (cap t) (t .head)) (slotOf (cap t) (rowOf ring (remove i) t .head)) (removed i) (t .len) ≡ min i (t .len - 1 - i)
+  remove-moved i fits =
+      ⊎-elim
       (λ (near : i < t .len - 1 - i). rw (lt-ltb _ _ near) (remove-low i fits ∙ omega arith))
       (λ (far : t .len - 1 - i ≤ i). rw (le-ltb _ _ far) (remove-high ring t ok i fits ∙ omega arith))
-      (below? i (t .len - 1 - i)))
+      (below? i (t .len - 1 - i))
+
+  pub insert-moves : (i x : ℕ) → i ≤ t .len → t .len < cap t → does ring (insert i x) t .moves ≡ min i (t .len - i)
+  insert-moves i x fits room = ap (λ o. o .moves) (done-plainly ring t (insert i x) ok (le-ltb _ _ fits, (lt-leb _ _ room, tt))) ∙ insert-moved i x fits room
+
+  pub remove-moves : (i : ℕ) → i < t .len → does ring (remove i) t .moves ≡ min i (t .len - 1 - i)
+  remove-moves i fits = ap (λ o. o .moves) (done-plainly ring t (remove i) ok (lt-leb _ _ fits, tt)) ∙ remove-moved i fits
 
 -- WHICH SIDE. The entry at position j stands in another slot after the call, by its carrying.
 abbrev pub shifts : (k : Kind) (call : Call) (t : Tray) (j : ℕ) → Bool
@@ -105,35 +109,42 @@ moves-are k call t ok none =
     ap (λ o. o .moves) is
     ∙ ap (λ o. tally (t .len) (λ j. elsewhere (place k (cap t) (o .tray .head)) (place k (cap t) (t .head) j) (rowOf k call t .carry j))) (sym is)
 
--- A ring's side: the front where it is shorter, and the head goes with it; else the back, also where they are alike, and the head stays.
+-- A ring's side: the front where it is shorter, and the head goes with it; else the back, also where they are alike, and the head stays, unless nothing is
+-- left.
 module _ (t : Tray) (ok : invalid ring t ≡ false) where
   pub insert-near : (i x : ℕ) → i ≤ t .len → t .len < cap t → i < t .len - i
       → (does ring (insert i x) t .tray .head ≡ headBack (cap t) (t .head)) × ((j : ℕ) → j < t .len → shifts ring (insert i x) t j ≡ ltb j i)
   insert-near i x fits room near =
       let is = done-is ring t (insert i x) ok (le-ltb _ _ fits, (lt-leb _ _ room, tt)) in
-      let head : does ring (insert i x) t .tray .head ≡ headBack (cap t) (t .head) = rw (is, lt-ltb _ _ near) in
+      let head : does ring (insert i x) t .tray .head ≡ headBack (cap t) (t .head) = rw (is, lt-ltb _ _ near, longer ring t i x fits) (head-kept (t .len + 1) _ (λ e. omega arith)) in
       (head, λ j h. rw head (insert-each-low t ok i fits room j h))
 
   pub insert-far : (i x : ℕ) → i ≤ t .len → t .len < cap t → t .len - i ≤ i
       → (does ring (insert i x) t .tray .head ≡ t .head) × ((j : ℕ) → j < t .len → shifts ring (insert i x) t j ≡ leb i j)
   insert-far i x fits room far =
       let is = done-is ring t (insert i x) ok (le-ltb _ _ fits, (lt-leb _ _ room, tt)) in
-      let head : does ring (insert i x) t .tray .head ≡ t .head = rw (is, le-ltb _ _ far) in
+      let head : does ring (insert i x) t .tray .head ≡ t .head = rw (is, le-ltb _ _ far, longer ring t i x fits) (head-kept (t .len + 1) _ (λ e. omega arith)) in
       (head, λ j h. rw head (insert-each-high ring t ok i room j h))
 
   pub remove-near : (i : ℕ) → i < t .len → i < t .len - 1 - i
       → (does ring (remove i) t .tray .head ≡ headOn (cap t) (t .head)) × ((j : ℕ) → j < t .len → shifts ring (remove i) t j ≡ ltb j i)
   remove-near i fits near =
       let is = done-is ring t (remove i) ok (lt-leb _ _ fits, tt) in
-      let head : does ring (remove i) t .tray .head ≡ headOn (cap t) (t .head) = rw (is, lt-ltb _ _ near) in
+      let head : does ring (remove i) t .tray .head ≡ headOn (cap t) (t .head) = rw (is, lt-ltb _ _ near, shorter ring t i fits) (head-kept (t .len - 1) _ (λ e. omega arith)) in
       (head, λ j h. rw head (remove-each-low t ok i fits j h))
 
   pub remove-far : (i : ℕ) → i < t .len → t .len - 1 - i ≤ i
-      → (does ring (remove i) t .tray .head ≡ t .head) × ((j : ℕ) → j < t .len → shifts ring (remove i) t j ≡ ltb i j)
+      → (does ring (remove i) t .tray .head ≡ headAfter ring (t .len - 1) (t .head)) × ((j : ℕ) → j < t .len → shifts ring (remove i) t j ≡ ltb i j)
   remove-far i fits far =
       let is = done-is ring t (remove i) ok (lt-leb _ _ fits, tt) in
-      let head : does ring (remove i) t .tray .head ≡ t .head = rw (is, le-ltb _ _ far) in
-      (head, λ j h. rw head (remove-each-high ring t ok i j h))
+      let head : does ring (remove i) t .tray .head ≡ headAfter ring (t .len - 1) (t .head) = rw (is, le-ltb _ _ far, shorter ring t i fits) in (
+        head,
+        λ j h.
+            ⊎-elim
+            (λ (none : t .len - 1 ≡ 0). rw (removed-here i j (omega arith)) (sym (le-ltb i j (omega arith))))
+            (λ (some : t .len - 1 ≡ 0 → ⊥). rw (head, head-kept (t .len - 1) (t .head) some) (remove-each-high ring t ok i j h))
+            (same? (t .len - 1) 0),
+      )
 
 -- A vector has no head to move: always the back.
 pub vector-insert-shifts : (t : Tray) → invalid vector t ≡ false → (i x : ℕ) → t .len < cap t → (j : ℕ) → j < t .len → shifts vector (insert i x) t j ≡ leb i j
@@ -171,29 +182,31 @@ swap-moves k t ok i h =
     (λ (ne : i ≡ t .len - 1 → ⊥). rw (ne-eqb _ _ ne) (swap-moves-one _ (t .len) i h ne (λ e. ne (one-slot (f .placed) i (t .len - 1) (omega arith) (omega arith) e))))
     (same? i (t .len - 1))
 
--- where the row keeps the head, a position keeps its slot
-stays-put : (k : Kind) (t : Tray) (call : Call) → place k (cap t) (headAfter k (length (after call (list k t))) (t .head)) ≡ place k (cap t) (t .head)
-stays-put k t call = same-place k (cap t) (length (after call (list k t))) (t .head)
+row-moved : (k : Kind) (t : Tray) (call : Call) → has call k ≡ true → (all : Clear (refusalsOf k call t))
+    → moved (place k (cap t) (t .head)) (place k (cap t) (rowOf k call t .head)) (rowOf k call t .carry) (t .len) ≡ movesIn k (t .len) call
+row-moved k t (push x) of e = moved-stay _ (t .len)
+row-moved ring t (pushFront x) of e = insert-low t (e .0) 0 (omega arith) (omega passed-tests)
+row-moved vector t (pushFront x) of e = let z : _≡_ {A = ℕ} 0 1 = cc in absurd (omega arith)
+row-moved k t pop of e = remove-high k t (e .0) (t .len - 1) (omega passed-tests) ∙ omega arith
+row-moved ring t popFront of e = remove-low t (e .0) 0 (omega passed-tests)
+row-moved vector t popFront of e = let z : _≡_ {A = ℕ} 0 1 = cc in absurd (omega arith)
+row-moved ring t (insert i x) of e = insert-moved t (e .0) i x (omega passed-tests) (omega passed-tests)
+row-moved vector t (insert i x) of e = insert-high vector t (e .0) i (omega passed-tests) (omega passed-tests)
+row-moved ring t (remove i) of e = remove-moved t (e .0) i (omega passed-tests)
+row-moved vector t (remove i) of e = remove-high vector t (e .0) i (omega passed-tests)
+row-moved k t (swapRemove i) of e = swap-moves k t (e .0) i (omega passed-tests)
+row-moved k t (write i x) of e = moved-replaced _ i (t .len)
+row-moved k t (truncate m) of e = moved-kept _ m (t .len)
+row-moved k t (resize m x) of e = moved-kept _ m (t .len)
+row-moved k t clear of e = moved-none _ _ (t .len)
+row-moved k t (extend s) of e = moved-stay _ (t .len)
+row-moved k t (look q) of e = moved-stay _ (t .len)
 
+-- where a ring is emptied too
 row-moves : (k : Kind) (t : Tray) (call : Call) → has call k ≡ true → (all : Clear (refusalsOf k call t))
     → done k t (after call (list k t)) (rowOf k call t) .moves ≡ movesIn k (t .len) call
-row-moves k t (push x) of e = rw (stays-put k t (push x)) (moved-stay _ (t .len))
-row-moves ring t (pushFront x) of e = insert-low t (e .0) 0 (omega arith) (omega passed-tests)
-row-moves vector t (pushFront x) of e = let z : _≡_ {A = ℕ} 0 1 = cc in absurd (omega arith)
-row-moves k t pop of e = rw (stays-put k t pop) (remove-high k t (e .0) (t .len - 1) (omega passed-tests) ∙ omega arith)
-row-moves ring t popFront of e = remove-low t (e .0) 0 (omega passed-tests)
-row-moves vector t popFront of e = let z : _≡_ {A = ℕ} 0 1 = cc in absurd (omega arith)
-row-moves ring t (insert i x) of e = sym (ap (λ o. o .moves) (done-is ring t (insert i x) (e .0) (e .1))) ∙ insert-moves t (e .0) i x (omega passed-tests) (omega passed-tests)
-row-moves vector t (insert i x) of e = insert-high vector t (e .0) i (omega passed-tests) (omega passed-tests)
-row-moves ring t (remove i) of e = sym (ap (λ o. o .moves) (done-is ring t (remove i) (e .0) (e .1))) ∙ remove-moves t (e .0) i (omega passed-tests)
-row-moves vector t (remove i) of e = remove-high vector t (e .0) i (omega passed-tests)
-row-moves k t (swapRemove i) of e = rw (stays-put k t (swapRemove i)) (swap-moves k t (e .0) i (omega passed-tests))
-row-moves k t (write i x) of e = rw (stays-put k t (write i x)) (moved-replaced _ i (t .len))
-row-moves k t (truncate m) of e = rw (stays-put k t (truncate m)) (moved-kept _ m (t .len))
-row-moves k t (resize m x) of e = rw (stays-put k t (resize m x)) (moved-kept _ m (t .len))
-row-moves k t clear of e = moved-none _ _ (t .len)
-row-moves k t (extend s) of e = rw (stays-put k t (extend s)) (moved-stay _ (t .len))
-row-moves k t (look q) of e = rw (stays-put k t (look q)) (moved-stay _ (t .len))
+row-moves k t call of e =
+    shifted-plainly k t (after call (list k t)) (rowOf k call t .head) (rowOf k call t .carry) (row-carries k t call (e .1)) ∙ row-moved k t call of e
 
 -- A call that its kind has, on any container.
 pub moves-of : (k : Kind) (call : Call) (t : Tray) → has call k ≡ true → does k call t .moves ≡ ifDone (does k call t .number) (movesIn k (t .len) call) 0
@@ -245,7 +258,7 @@ moves-of2 k k2 call t t2 =
     either (λ (o : Outcome2). o .moves ≡ 0) (refused2 t t2 (rowOf2 k k2 call t t2 .given)) (refusalsOf2 k k2 call t t2)
     (done2 k k2 t t2 (after2 call (list k t) (list k2 t2)) (rowOf2 k k2 call t t2))
     (λ r. refl)
-    (λ none. rw (same-place k (cap t) (length (after2 call (list k t) (list k2 t2) .0)) (t .head)) (go call))
+    (λ none. shifted-plainly k t (after2 call (list k t) (list k2 t2) .0) (t .head) (rowOf2 k k2 call t t2 .carry) (row-carries2 k k2 t t2 call) ∙ go call)
   where
     go : (call : Call2) → moved (place k (cap t) (t .head)) (place k (cap t) (t .head)) (rowOf2 k k2 call t t2 .carry) (t .len) ≡ 0
     go append = moved-stay _ (t .len)

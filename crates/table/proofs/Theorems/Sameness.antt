@@ -12,9 +12,9 @@ use Rattle.table.specs.Tray.{Tray, cap, list, invalid}
 use Rattle.table.specs.Calls.{clone, same}
 use Rattle.table.specs.Table.{equalLists}
 use Rattle.table.specs.Does.{Outcome2, relay, does2}
-use Rattle.table.proofs.Laws.Done.{many}
+use Rattle.table.proofs.Laws.Done.{many, head-in}
 use Rattle.table.proofs.Laws.Equal.{equal?}
-use Rattle.table.proofs.Laws.Keeps.{relay-list, head-in}
+use Rattle.table.proofs.Laws.Keeps.{relay-list}
 use Rattle.table.proofs.Laws.Valid.{fit}
 use Rattle.table.proofs.Theorems.Refused.{two-settled, two-clear}
 use Rattle.table.proofs.Theorems.Listed.{two-listed}

@@ -11,3 +11,4 @@ pub mod OnceMixed
 pub mod UpstreamRings
 pub mod UpstreamVectors
 pub mod Same
+pub mod Home

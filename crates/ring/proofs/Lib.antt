@@ -3,3 +3,4 @@ pub mod Told
 pub mod Ours
 pub mod Once
 pub mod Upstream
+pub mod Home

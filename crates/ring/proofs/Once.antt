@@ -14,6 +14,7 @@ use Rattle.ring.specs.declared.Answer.{Answer}
 use Rattle.ring.specs.Seen.{seen, Meets, Makes, state, says}
 use Rattle.ring.proofs.Ring as fn
 use Rattle.ring.proofs.state as state·fn
+use Rattle.ring.proofs.left as left·fn
 use Rattle.ring.proofs.refused as refused·fn
 use Rattle.ring.proofs.shows as shows·fn
 use Rattle.ring.proofs.done as done·fn
@@ -81,6 +82,9 @@ module _ (κs : Lfts 1) where
 module _ (κs : Lfts 0) where
   pub state-once : Twice state·fn.ended κs (state·fn.Reads.Learnt κs) (λ r e r′ e′. r ≡ r′)
   state-once a r r′ e e′ p q = p ∙ sym q
+
+  pub left-once : Twice left·fn.ended κs (left·fn.Reads.Learnt κs) (λ r e r′ e′. r ≡ r′)
+  left-once a r r′ e e′ p q = p ∙ sym q
 
   pub refused-once : Twice refused·fn.ended κs (refused·fn.Reads.Learnt κs) (λ r e r′ e′. r ≡ r′)
   refused-once a r r′ e e′ p q = p ∙ sym q

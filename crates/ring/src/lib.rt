@@ -134,9 +134,9 @@ impl Ring {
             }
             return refused(6, self);
         }
-        let front = slots::slot(cap, head, cap - 1);
-        slots[front] = x;
-        done(0, 0, front, len + 1)
+        let first = slots::slot(cap, head, cap - 1); // of an empty ring too, whose head is 0
+        slots[first] = x;
+        done(0, 0, first, len + 1)
     }
 
     pub fn pop_back(self, slots: &mut [u32]) -> Answer
@@ -338,7 +338,7 @@ pub fn done(value: u32, moves: usize, head: usize, len: usize) -> Answer
 }
 
 // A call that is done and has taken entries out, perhaps the last.
-pub fn took(value: u32, moves: usize, head: usize, len: usize) -> Answer
+fn took(value: u32, moves: usize, head: usize, len: usize) -> Answer
     ensures { λ r. ⌜ r ≡ says 0 value moves (state (headAfter ring len head) len) ⌝ }
 {
     says(0, value, moves, left(head, len))

@@ -13,6 +13,7 @@ use Rattle.table.specs.World.{World, called, Ours}
 use Rattle.table.proofs.Laws.Refusals.{either}
 use Rattle.table.proofs.Laws.Keeps.{showing-kept}
 use Rattle.table.proofs.Laws.Named.{Is, ours-called}
+use Rattle.table.proofs.Theorems.AlwaysHome.{Homes, showing-homes}
 use Rattle.digits.specs.Put.{put}
 use Rattle.ring.specs.Seen as rings
 use Rattle.vector.specs.Seen as vectors
@@ -33,6 +34,10 @@ as-it-was k t text =
 
 pub storing-kept : (text : List ℕ) → Kept (storing text)
 storing-kept text = showing-kept _ _ (λ k t. as-it-was k t text)
+
+-- an empty ring's head stays 0
+pub storing-homes : (text : List ℕ) → Homes (storing text)
+storing-homes text = showing-homes _ _ (λ k t. as-it-was k t text)
 
 -- In what follows a are the arguments, r is the result, and e the arguments as they are at the return.
 module _ (w : World) (i : ℕ) (κs : Lfts 2) where

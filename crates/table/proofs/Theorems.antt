@@ -13,6 +13,9 @@ pub mod Offers
 pub mod StaysValid
 pub mod Unique
 pub mod Demand3
+pub mod Home
+pub mod AlwaysHome
+pub mod Stack
 pub mod Upstream
 pub mod UpstreamTwo
 pub mod UpstreamWalks

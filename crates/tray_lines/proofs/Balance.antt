@@ -13,6 +13,7 @@ use Rattle.table.specs.Ledger.{modelled, entered, handed, dropped}
 use Rattle.table.specs.World.{World, Event, at, make, Ours, AllOurs, run, lines, held, standingAll}
 use Rattle.table.proofs.Laws.Keeps.{call-kept, two-kept, made-arrives}
 use Rattle.table.proofs.Theorems.Demand3.{demand-3, models}
+use Rattle.table.proofs.Theorems.Home.{AtHome, valid-home}
 use Rattle.table.proofs.Theorems.StaysValid.{stays-valid, first-stays-valid, second-stays-valid, made-valid}
 use Rattle.tray_lines.specs.declared.lines.RingOp.{RingOp}
 use Rattle.tray_lines.specs.declared.lines.VectorOp.{VectorOp}
@@ -183,6 +184,10 @@ begun-four = record {
 -- After any lines every container is valid.
 pub lines-valid : (ls : List (List ℕ)) → Fours (after begun ls)
 lines-valid ls = leads begun ls begun-four .still
+
+-- So an empty ring has head 0.
+pub lines-home : (ls : List (List ℕ)) → AtHome ring (lines-valid ls .t0) × AtHome ring (lines-valid ls .t1)
+lines-home ls = let v = lines-valid ls .valid in (valid-home ring (lines-valid ls .t0) (v .0), valid-home ring (lines-valid ls .t1) (v .1))
 
 all-ours : (ls : List (List ℕ)) → AllOurs [] (happened ls)
 unfolding begun

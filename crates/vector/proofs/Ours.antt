@@ -14,6 +14,7 @@ use Rattle.table.specs.Parts.{Part, lends, lendsAll, inPart}
 use Rattle.table.specs.World.{World, make, on, called, Ours}
 use Rattle.table.proofs.Laws.Named.{Is, ours-make, ours-on, ours-called}
 use Rattle.table.proofs.Laws.Keeps.{showing-kept}
+use Rattle.table.proofs.Theorems.AlwaysHome.{Homes, showing-homes}
 use Rattle.vector.specs.Seen.{tray, seen}
 use Rattle.vector.specs.Reading.{shown, reading}
 use Rattle.vector.proofs.Vector as fns
@@ -101,6 +102,10 @@ module _ (w : World) (i : ℕ) (κs : Lfts 2) where
   pub extend-from-slice-ours : (a : ArgsD fns.extend_from_slice.signature κs) (r : ResD fns.extend_from_slice.signature κs) (e : AtExit fns.extend_from_slice.ended κs)
       → Is w i vector (tray (a .0) (now (a .1 .0))) → fns.extend_from_slice.Reads.Learnt κs a r e → Ours w (on i (extend (now (a .1 .1 .0))) (seen r (now (e .1 .0))))
   extend-from-slice-ours a r e is learnt = ours-on w i _ _ _ _ refl is (learnt .row)
+
+-- a part that is only read leaves an empty ring's head at 0, as it leaves everything
+pub reading-homes : (part : Tray → Part) → Homes (reading part)
+reading-homes part = showing-homes _ _ (λ k t. refl)
 
 -- The parts that are only read. That the slots stay is the `&`'s doing; that the part is the one lent is the promise's.
 module _ (part : Tray → Part) (w : World) (i : ℕ) (t : Tray) where

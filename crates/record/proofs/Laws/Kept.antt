@@ -14,6 +14,8 @@ use Rattle.table.specs.Does.{Outcome2, refused2}
 use Rattle.table.specs.Ledger.{goesBy2}
 use Rattle.table.specs.Promise.{Good, Keeps2, Kept2}
 use Rattle.table.proofs.Laws.Keeps.{relay-holds, refused2-keeps}
+use Rattle.table.proofs.Theorems.Home.{AtHome}
+use Rattle.table.proofs.Theorems.AlwaysHome.{Homes2}
 use Rattle.record.specs.Scan.{scanned}
 use Rattle.record.specs.Places.{firsts, lasts}
 use Rattle.record.specs.Steps.{numberOf}
@@ -79,3 +81,13 @@ recording-kept text = record { keeps = keeps }
     keeps vector vector t t2 has good good2 = kept-records text t t2 good good2
     keeps vector ring t t2 has good good2 = absurd (let z : _≡_ {A = ℕ} 0 1 = cc in omega arith)
     keeps ring k2 t t2 has good good2 = absurd (let z : _≡_ {A = ℕ} 0 1 = cc in omega arith)
+
+-- it is on vectors alone, so every empty ring is where it was
+pub recording-homes : (text : List ℕ) → Homes2 (recording text)
+recording-homes text = record { homes = homes }
+  where
+    homes : (k k2 : Kind) (t t2 : Tray) → recording text .has k k2 ≡ true → AtHome k t → AtHome k2 t2
+        → AtHome k (records text t t2 .first) × AtHome k2 (records text t t2 .second)
+    homes vector vector t t2 has home home2 = (tt, tt)
+    homes vector ring t t2 has home home2 = absurd (let z : _≡_ {A = ℕ} 0 1 = cc in omega arith)
+    homes ring k2 t t2 has home home2 = absurd (let z : _≡_ {A = ℕ} 0 1 = cc in omega arith)

@@ -18,6 +18,7 @@ use Rattle.table.proofs.Theorems.Trays.{tray, cursor, gives, answers}
 use Rattle.table.proofs.Cases.Samples.{gives2, answers2, shows2}
 use Rattle.table.proofs.Laws.Keeps.{call-kept, two-kept, made-arrives}
 use Rattle.table.proofs.Theorems.Demand3.{models, demand-3}
+use Rattle.table.proofs.Theorems.AlwaysHome.{AllHoming, AllHome, making-homes, call-homes, two-homes, always-home}
 
 -- Containers 0 and 1 are rings, 2 and 3 vectors; the last making is refused. W of paper 01 is made by calls and case a is done on it; then a
 -- push is refused, entries go over to the other ring and back, copies to a vector, and one of the copies is handed out.
@@ -117,6 +118,35 @@ free-slots = (refl, refl, refl, refl)
 -- demand 3 of this run
 and-so : (x : ℕ) → entered x [] (lines events) ≡ handed x [] (lines events) + dropped x [] (lines events) + standingAll x (run [] events)
 and-so x = demand-3 events ours x
+
+-- every empty ring of this run has head 0: container 1, which append has emptied, is one
+homing : AllHoming events
+homing =
+    making-homes new
+    then making-homes (withCapacity 3)
+    then making-homes (fromElem 2 8)
+    then making-homes (fromElem 3 8)
+    then call-homes (push 11)
+    then call-homes (pushFront 10)
+    then call-homes (pushFront 9)
+    then call-homes (insert 1 8)
+    then call-homes (push 8)
+    then two-homes (splitOff 2)
+    then call-homes popFront
+    then call-homes (resize 3 8)
+    then two-homes clone
+    then call-homes (truncate 2)
+    then two-homes (fromIter (cursor 0 2))
+    then call-homes (swapRemove 0)
+    then call-homes (write 1 8)
+    then two-homes append
+    then call-homes (look (read 1))
+    then call-homes popFront
+    then call-homes pop
+    then tt
+
+rings-home : AllHome (run [] events)
+rings-home = always-home events ours homing
 
 -- What is not ours: from_elem of a ring, a call on a container that is not there, push_front of a vector, one container named twice, append of
 -- a vector to a ring, and a pop whose outcome is that of a refusal.

@@ -92,14 +92,17 @@ pub fn wrapped<R: Ring>(cap: usize, n: usize) -> R {
     turned(cap - n / 2, n)
 }
 
-// A ring of n entries that begins `by` slots further on.
+// A ring of n entries that begins `by` slots further on. One entry stays in it while it turns: ours starts at slot 0 again where it is emptied.
 pub fn turned<R: Ring>(by: usize, n: usize) -> R {
     let r = R::make();
-    for _ in 0..by {
+    if n > 0 {
         r.push_back(0);
-        r.pop_front();
+        for _ in 0..by {
+            r.push_back(0);
+            r.pop_front();
+        }
     }
-    for k in 0..n {
+    for k in 1..n {
         r.push_back(k as u32);
     }
     r

@@ -47,7 +47,7 @@ macro_rules! side {
 }
 
 const TEST: &str = "the one test before the work, which asks of a state what Rust's type has settled: one to three comparisons more";
-const ENDS: &str = "the one test before the work, which asks of a state what Rust's type has settled: two comparisons more in each call; the freed slot, which paper 01 has set to 0 and Rust leaves as it was; and the state, both words of which are written back where Rust stores what changed (on a Neoverse-N1, which loads and stores them as a pair, the largest part)";
+const ENDS: &str = "the one test before the work, which asks of a state what Rust's type has settled: two comparisons more in each call, and two more in a push, which asks an empty ring for its head (request 03); the freed slot, which paper 01 has set to 0 and Rust leaves as it was; and the state, both words of which are written back where Rust stores what changed (on a Neoverse-N1, which loads and stores them as a pair, the largest part)";
 const REFILL: &str = "paper 01 has every freed slot hold 0: a memset for each run of slots, where Rust touches none; at 256 also where the loop of resize lies in its function; at 16 the tests of two calls";
 const APPEND: &str = "the slots that T frees are set to 0, as paper 01 has it: a memset for each run, where Rust touches none";
 const CLONE: &str = "the test of two states; the copy is a memmove for each run of slots";

@@ -1,7 +1,7 @@
 -- Request 03 from the generated contracts: a ring that a done call leaves empty has head 0; and a fresh stack that `push_back` lays on an empty ring lies
 -- along its slots from slot 0 on, entry j in slot j.
 use Prim.Native.Nat.{ℕ, _≤_, _<_}
-use mathlib.Core.Path.{_≡_, refl, sym, ap, _∙_, subst⁻¹}
+use mathlib.Core.Path.{_≡_, refl, ap, _∙_, subst⁻¹}
 use mathlib.Core.List.{List, [], _∷_}
 use lib.ListN.{length, getD}
 use contract.Lifetimes.{Lfts}

@@ -2,7 +2,6 @@
 -- then an empty ring with another head, as first and as T, given to every call. Computed from the definitions.
 use mathlib.Core.Path.{_≡_, refl}
 use mathlib.Core.List.{[], _∷_}
-use Prim.Native.Nat.{ℕ}
 use Rattle.slots.specs.Lists.{tabulate}
 use Rattle.slots.specs.Count.{one, tally}
 use Rattle.slots.specs.Layout.{ring, vector, slotOf, posOf, entries, relaid}

@@ -19,7 +19,7 @@ use Rattle.slots.proofs.Moves.{moved-stay, moved-gone}
 use Rattle.table.specs.Tray.{Tray, cap, list, invalid}
 use Rattle.table.specs.Calls.{Call, Call2}
 use Rattle.table.specs.Table.{Row, after, after2}
-use Rattle.table.specs.Does.{Outcome, refused, headAfter, relay, shifted, rowOf, rowOf2, refusalsOf, done, does}
+use Rattle.table.specs.Does.{Outcome, refused, headAfter, shifted, rowOf, rowOf2, refusalsOf, done, does}
 use Rattle.table.proofs.Theorems.Carrying.{Carries, carried, carried2, none-carried, on}
 use Rattle.table.proofs.Laws.Refusals.{Clear, clear-of}
 use Rattle.table.proofs.Laws.Valid.{fit, ring-facts}

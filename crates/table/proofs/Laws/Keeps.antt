@@ -6,7 +6,7 @@ use mathlib.Core.Bool.{Bool, true, false, cond}
 use mathlib.Core.List.{List, []}
 use native.Mathlib.Omega.{arith}
 use lib.ListN.{length}
-use Rattle.slots.specs.Layout.{Kind, ring, vector, place}
+use Rattle.slots.specs.Layout.{Kind, place}
 use Rattle.slots.proofs.Counts.{count-append}
 use Rattle.slots.proofs.Placing.{placing, length-entries, no-entries}
 use Rattle.slots.proofs.Relaid.{length-relaid, entries-relaid}

@@ -10,12 +10,12 @@ use Rattle.slots.specs.Layout.{Kind, ring, vector}
 use Rattle.table.specs.Tray.{Tray, cap, list, invalid, nowhere}
 use Rattle.table.specs.Calls.{Call, Call2, Making}
 use Rattle.table.specs.Table.{after, after2, begins, makes}
-use Rattle.table.specs.Does.{Outcome, refused, headAfter, relay, done, rowOf, refusalsOf, does, bare, refusalsMade, made}
+use Rattle.table.specs.Does.{Outcome, refused, relay, done, rowOf, refusalsOf, does, bare, refusalsMade, made}
 use Rattle.table.specs.Does.{Outcome2, refused2, done2, rowOf2, refusalsOf2, does2}
 use Rattle.table.proofs.Laws.Refusals.{either}
 use Rattle.table.proofs.Laws.Valid.{ring-facts}
 use Rattle.table.proofs.Laws.Done.{home-of-none, head-kept, plainly, done-plainly}
-use Rattle.table.proofs.Theorems.Refused.{call-settled, call-clear, two-settled, two-clear, made-settled, made-clear}
+use Rattle.table.proofs.Theorems.Refused.{call-settled, call-clear, two-settled, two-clear}
 
 -- where nothing is in it, its head is 0; a vector has none
 abbrev pub AtHome : Kind → Tray → Type 0

@@ -13,6 +13,7 @@ pub mod VectorDone
 pub mod Done2
 pub mod Equal
 pub mod Lending
+pub mod Reporting
 pub mod Rows
 pub mod Keeps
 pub mod Named

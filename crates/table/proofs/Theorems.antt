@@ -5,6 +5,7 @@ pub mod Numbers
 pub mod Order
 pub mod Refused
 pub mod Moves
+pub mod Reported
 pub mod Carrying
 pub mod CarriedSlots
 pub mod Parts

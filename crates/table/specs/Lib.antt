@@ -4,6 +4,7 @@ pub mod Calls
 pub mod Table
 pub mod Numbers
 pub mod Does
+pub mod Reported
 pub mod Parts
 pub mod Lent
 pub mod Tested

@@ -36,6 +36,7 @@ struct Answer {
     number: u8,
     value: u32,
     moves: u64,
+    slot: Option<usize>,
     part: Option<Vec<u32>>,
     text: Option<Vec<u8>>,
 }
@@ -159,7 +160,7 @@ impl Desk {
         if fills_second(q.act) {
             self.second.lay(Ring, q.second, 0, other.iter());
         }
-        Answer { value, moves: rules::moves(&Asked { first: before, ..*q }, self.first.state()), ..Answer::default() }
+        self.changed(&Asked { first: before, ..*q }, value)
     }
 
     fn vector(&mut self, q: &Asked) -> Answer {
@@ -175,7 +176,13 @@ impl Desk {
         if fills_second(q.act) {
             self.second.lay(Vector, q.second, 0, other.iter());
         }
-        Answer { value, moves: rules::moves(&Asked { first: before, ..*q }, self.first.state()), ..Answer::default() }
+        self.changed(&Asked { first: before, ..*q }, value)
+    }
+
+    // Moves and the slot reported, by how the first container stood before and stands now.
+    fn changed(&self, q: &Asked, value: u32) -> Answer {
+        let after = self.first.state();
+        Answer { value, moves: rules::moves(q, after), slot: rules::reported(q, after), ..Answer::default() }
     }
 
     fn begin(&mut self, q: &Asked) -> Answer {
@@ -226,7 +233,8 @@ impl Desk {
     fn print(&self, answer: &Answer, out: &mut Vec<u8>) {
         let (first, second) = (&self.first, &self.second);
         let rest = [first.head, first.len, second.head, second.len, self.front, self.back];
-        format::answer(out, answer.number, answer.value, answer.moves, rest);
+        let slot = answer.slot.map_or(rules::NO_SLOT, |k| k as u64);
+        format::answer(out, answer.number, answer.value, answer.moves, rest, slot);
         format::entries(out, &first.slots);
         format::entries(out, &second.slots);
         if let Some(part) = &answer.part {

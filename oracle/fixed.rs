@@ -43,7 +43,7 @@ fn list(pen: &mut Pen) {
     for code in [0x12, 0x18, 0x22, 0x27, 0x40, 0x43, 0x44, 0x53, 0x60, 0x62, 0x39] {
         pen.line(code, 0, 0);
     }
-    pen.say("Paper 01: cases a to m; request 03: emptied rings; and the calls of paper 01's listing.");
+    pen.say("Paper 01: cases a to m; request 03: emptied rings; request 10: the slot that is reported; and the calls of paper 01's listing.");
     selfcheck::write_papers(pen);
     pen.say("A sample of the short cases: capacity 0 to 4, every head and length, valid or not.");
     pen.set_second(1, 1, &[0x51, 0x52]);

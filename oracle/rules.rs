@@ -1,7 +1,9 @@
-// Paper 01's rules of layout and refusal, with request 03's of an empty ring, written from the papers: validity, slots, heads, numbers, carrying, moves, stored form. No list is made here.
+// Paper 01's rules of layout and refusal, with request 03's of an empty ring and request 10's of the slot reported, written from the papers: validity,
+// slots, heads, numbers, carrying, moves, reports, stored form. No list is made here.
 use crate::ops::{self, Act, Act::*, Kind, Kind::*};
 
 const MOST: u64 = 4096;
+pub const NO_SLOT: u64 = 65_535; // what is reported where there is no slot to report
 
 #[derive(Clone, Copy, PartialEq, Eq, Debug)]
 pub struct State {
@@ -136,6 +138,22 @@ fn carried(q: &Asked, len_after: u64, j: u64) -> Option<u64> {
 pub fn moves(q: &Asked, after: State) -> u64 {
     let moved = |j: u64| carried(q, after.len, j).is_some_and(|k| slot(q.kind, q.first, j) != slot(q.kind, after, k));
     (0..q.first.len).filter(|&j| moved(j)).count() as u64
+}
+
+// What a call that is done reports, `after` being the first container's state then: where the entry stands that was put, read or written, or where the
+// one stood that was taken out. None for every other call.
+pub fn reported(q: &Asked, after: State) -> Option<usize> {
+    let stands = |j: u64| Some(slot(q.kind, after, j));
+    let stood = |j: u64| Some(slot(q.kind, q.first, j));
+    match q.act {
+        Read | Write | Insert => stands(q.a),
+        PushBack => stands(after.len - 1),
+        PushFront => stands(0),
+        Remove | SwapRemove => stood(q.a),
+        PopBack => stood(q.first.len - 1),
+        PopFront => stood(0),
+        _ => None,
+    }
 }
 
 pub fn occupied(kind: Kind, s: State) -> impl Iterator<Item = usize> {

@@ -1,19 +1,21 @@
 -- One answer: any two results that meet a call's generated contract on the same arguments are the same, and so are the contents that from_iter leaves
 -- in T's slots. The step is read back from the number, the value and the cursor.
 use Prim.Native.Nat.{ℕ, zero, suc}
-use mathlib.Core.Path.{_≡_, refl, sym, ap, _∙_}
+use mathlib.Core.Path.{_≡_, refl, sym, ap, ap₂, _∙_}
 use mathlib.Core.List.{List}
 use contract.Lifetimes.{Lfts}
 use denote.Ref.{now}
 use Rattle.slots.proofs.Twice.{Twice}
+use Rattle.slots.specs.Layout.{Kind}
 use Rattle.table.specs.Tray.{Tray, Cursor}
+use Rattle.table.specs.Calls.{Call, Call2}
 use Rattle.table.specs.Does.{Outcome, Outcome2}
 use Rattle.cursors.specs.declared.Cursor as code
 use Rattle.cursors.specs.declared.Begun.{Begun}
 use Rattle.cursors.specs.declared.Taken.{Taken}
 use Rattle.cursors.specs.declared.Step.{Step}
 use Rattle.cursors.specs.declared.Step.the-variants.{Entry, Invalid, Astray, Ended}
-use Rattle.cursors.specs.Seen.{seen, seenBegun, seenInto, taking}
+use Rattle.cursors.specs.Seen.{seen, Starts, Takes}
 use Rattle.cursors.proofs.Cursor as fn
 
 again : Cursor → code.Cursor
@@ -38,22 +40,24 @@ read-back (Ended u) t = refl
 one : (o : Outcome) (r r′ : Step) (t t′ : Tray) → seen r t ≡ o → seen r′ t′ ≡ o → r ≡ r′
 one o r r′ t t′ p q = sym (read-back r t) ∙ ap (λ (o : Outcome). answer (o .number) (o .value) (again (o .cursor))) (p ∙ sym q) ∙ read-back r′ t′
 
-one-begun : (o : Outcome) (r r′ : Begun) (t t′ : Tray) → seenBegun r t ≡ o → seenBegun r′ t′ ≡ o → r ≡ r′
-one-begun o r r′ t t′ p q = ap (λ (o : Outcome). record { number = o .number; cursor = record { front = o .cursor .front; back = o .cursor .back } }) (p ∙ sym q)
+one-begun : {k : Kind} {call : Call} {t : Tray} (r r′ : Begun) → Starts k call t r → Starts k call t r′ → r ≡ r′
+unfolding again
+one-begun r r′ p q = ap₂ (λ (o : Outcome) n. record { number = o .number; slot = n; cursor = again (o .cursor) }) (p .row ∙ sym (q .row)) (p .slot ∙ sym (q .slot))
 
-one-into : (o : Outcome2) (r r′ : Taken) (t t′ : Tray) (s2 s2′ : List ℕ) → seenInto r t s2 ≡ o → seenInto r′ t′ s2′ ≡ o → (r ≡ r′) × (s2 ≡ s2′)
-one-into o r r′ t t′ s2 s2′ p q = (
-  ap (λ (o : Outcome2). taking (o .number) (record { front = o .cursor .front; back = o .cursor .back }) (record { len = o .second .len })) (p ∙ sym q),
-  ap (λ (o : Outcome2). o .second .slots) (p ∙ sym q),
+one-into : {k : Kind} {call : Call2} {t t2 : Tray} (r r′ : Taken) (s2 s2′ : List ℕ) → Takes k call t t2 r s2 → Takes k call t t2 r′ s2′ → (r ≡ r′) × (s2 ≡ s2′)
+unfolding again
+one-into r r′ s2 s2′ p q = (
+  ap₂ (λ (o : Outcome2) n. record { number = o .number; slot = n; cursor = again (o .cursor); vector = record { len = o .second .len } }) (p .row ∙ sym (q .row)) (p .slot ∙ sym (q .slot)),
+  ap (λ (o : Outcome2). o .second .slots) (p .row ∙ sym (q .row)),
 )
 
 -- In what follows a are the arguments, r and r′ are results, and e and e′ the arguments as they are at the return.
 module _ (κs : Lfts 1) where
   pub ring-iter-once : Twice fn.ring_iter.ended κs (fn.ring_iter.Reads.Learnt κs) (λ r e r′ e′. r ≡ r′)
-  ring-iter-once a r r′ e e′ p q = one-begun _ r r′ _ _ p q
+  ring-iter-once a r r′ e e′ p q = one-begun r r′ p q
 
   pub ring-into-iter-once : Twice fn.ring_into_iter.ended κs (fn.ring_into_iter.Reads.Learnt κs) (λ r e r′ e′. r ≡ r′)
-  ring-into-iter-once a r r′ e e′ p q = one-begun _ r r′ _ _ p q
+  ring-into-iter-once a r r′ e e′ p q = one-begun r r′ p q
 
   pub ring-step-front-once : Twice fn.ring_step_front.ended κs (fn.ring_step_front.Reads.Learnt κs) (λ r e r′ e′. r ≡ r′)
   ring-step-front-once a r r′ e e′ p q = one _ r r′ _ _ p q
@@ -68,10 +72,10 @@ module _ (κs : Lfts 1) where
   ring-peek-back-once a r r′ e e′ p q = one _ r r′ _ _ p q
 
   pub vector-iter-once : Twice fn.vector_iter.ended κs (fn.vector_iter.Reads.Learnt κs) (λ r e r′ e′. r ≡ r′)
-  vector-iter-once a r r′ e e′ p q = one-begun _ r r′ _ _ p q
+  vector-iter-once a r r′ e e′ p q = one-begun r r′ p q
 
   pub vector-into-iter-once : Twice fn.vector_into_iter.ended κs (fn.vector_into_iter.Reads.Learnt κs) (λ r e r′ e′. r ≡ r′)
-  vector-into-iter-once a r r′ e e′ p q = one-begun _ r r′ _ _ p q
+  vector-into-iter-once a r r′ e e′ p q = one-begun r r′ p q
 
   pub vector-step-front-once : Twice fn.vector_step_front.ended κs (fn.vector_step_front.Reads.Learnt κs) (λ r e r′ e′. r ≡ r′)
   vector-step-front-once a r r′ e e′ p q = one _ r r′ _ _ p q
@@ -87,7 +91,7 @@ module _ (κs : Lfts 1) where
 
 module _ (κs : Lfts 2) where
   pub ring-from-iter-once : Twice fn.ring_from_iter.ended κs (fn.ring_from_iter.Reads.Learnt κs) (λ r e r′ e′. (r ≡ r′) × (now (e .1 .1 .1 .1 .0) ≡ now (e′ .1 .1 .1 .1 .0)))
-  ring-from-iter-once a r r′ e e′ p q = one-into _ r r′ _ _ _ _ p q
+  ring-from-iter-once a r r′ e e′ p q = one-into r r′ _ _ p q
 
   pub vector-from-iter-once : Twice fn.vector_from_iter.ended κs (fn.vector_from_iter.Reads.Learnt κs) (λ r e r′ e′. (r ≡ r′) × (now (e .1 .1 .1 .1 .0) ≡ now (e′ .1 .1 .1 .1 .0)))
-  vector-from-iter-once a r r′ e e′ p q = one-into _ r r′ _ _ _ _ p q
+  vector-from-iter-once a r r′ e e′ p q = one-into r r′ _ _ p q

@@ -19,12 +19,12 @@ module _ (w : World) (i : ℕ) (κs : Lfts 1) where
   pub ring-iter-ours : (a : ArgsD fn.ring_iter.signature κs) (r : ResD fn.ring_iter.signature κs) (e : AtExit fn.ring_iter.ended κs)
       → Is w i ring (rings.tray (a .0) (now (a .1 .0))) → fn.ring_iter.Reads.Learnt κs a r e
       → Ours w (on i (look iter) (seenBegun r (rings.tray (a .0) (now (a .1 .0)))))
-  ring-iter-ours a r e is learnt = ours-on w i _ _ _ _ refl is learnt
+  ring-iter-ours a r e is learnt = ours-on w i _ _ _ _ refl is (learnt .row)
 
   pub ring-into-iter-ours : (a : ArgsD fn.ring_into_iter.signature κs) (r : ResD fn.ring_into_iter.signature κs) (e : AtExit fn.ring_into_iter.ended κs)
       → Is w i ring (rings.tray (a .0) (now (a .1 .0))) → fn.ring_into_iter.Reads.Learnt κs a r e
       → Ours w (on i (look intoIter) (seenBegun r (rings.tray (a .0) (now (a .1 .0)))))
-  ring-into-iter-ours a r e is learnt = ours-on w i _ _ _ _ refl is learnt
+  ring-into-iter-ours a r e is learnt = ours-on w i _ _ _ _ refl is (learnt .row)
 
   pub ring-step-front-ours : (a : ArgsD fn.ring_step_front.signature κs) (r : ResD fn.ring_step_front.signature κs) (e : AtExit fn.ring_step_front.ended κs)
       → Is w i ring (rings.tray (a .1 .0) (now (a .1 .1 .0))) → fn.ring_step_front.Reads.Learnt κs a r e
@@ -49,12 +49,12 @@ module _ (w : World) (i : ℕ) (κs : Lfts 1) where
   pub vector-iter-ours : (a : ArgsD fn.vector_iter.signature κs) (r : ResD fn.vector_iter.signature κs) (e : AtExit fn.vector_iter.ended κs)
       → Is w i vector (vectors.tray (a .0) (now (a .1 .0))) → fn.vector_iter.Reads.Learnt κs a r e
       → Ours w (on i (look iter) (seenBegun r (vectors.tray (a .0) (now (a .1 .0)))))
-  vector-iter-ours a r e is learnt = ours-on w i _ _ _ _ refl is learnt
+  vector-iter-ours a r e is learnt = ours-on w i _ _ _ _ refl is (learnt .row)
 
   pub vector-into-iter-ours : (a : ArgsD fn.vector_into_iter.signature κs) (r : ResD fn.vector_into_iter.signature κs) (e : AtExit fn.vector_into_iter.ended κs)
       → Is w i vector (vectors.tray (a .0) (now (a .1 .0))) → fn.vector_into_iter.Reads.Learnt κs a r e
       → Ours w (on i (look intoIter) (seenBegun r (vectors.tray (a .0) (now (a .1 .0)))))
-  vector-into-iter-ours a r e is learnt = ours-on w i _ _ _ _ refl is learnt
+  vector-into-iter-ours a r e is learnt = ours-on w i _ _ _ _ refl is (learnt .row)
 
   pub vector-step-front-ours : (a : ArgsD fn.vector_step_front.signature κs) (r : ResD fn.vector_step_front.signature κs) (e : AtExit fn.vector_step_front.ended κs)
       → Is w i vector (vectors.tray (a .1 .0) (now (a .1 .1 .0))) → fn.vector_step_front.Reads.Learnt κs a r e
@@ -80,9 +80,9 @@ module _ (w : World) (i j : ℕ) (κs : Lfts 2) where
   pub ring-from-iter-ours : (a : ArgsD fn.ring_from_iter.signature κs) (r : ResD fn.ring_from_iter.signature κs) (e : AtExit fn.ring_from_iter.ended κs)
       → Are w i j ring vector (rings.tray (a .1 .0) (now (a .1 .1 .0))) (vectors.tray (a .1 .1 .1 .0) (now (a .1 .1 .1 .1 .0))) → fn.ring_from_iter.Reads.Learnt κs a r e
       → Ours w (onTwo i j (fromIter (cursor (a .0))) (seenInto r (rings.tray (a .1 .0) (now (a .1 .1 .0))) (now (e .1 .1 .1 .1 .0))))
-  ring-from-iter-ours a r e are learnt = ours-on-two w i j _ _ _ _ _ _ refl are learnt
+  ring-from-iter-ours a r e are learnt = ours-on-two w i j _ _ _ _ _ _ refl are (learnt .row)
 
   pub vector-from-iter-ours : (a : ArgsD fn.vector_from_iter.signature κs) (r : ResD fn.vector_from_iter.signature κs) (e : AtExit fn.vector_from_iter.ended κs)
       → Are w i j vector vector (vectors.tray (a .1 .0) (now (a .1 .1 .0))) (vectors.tray (a .1 .1 .1 .0) (now (a .1 .1 .1 .1 .0))) → fn.vector_from_iter.Reads.Learnt κs a r e
       → Ours w (onTwo i j (fromIter (cursor (a .0))) (seenInto r (vectors.tray (a .1 .0) (now (a .1 .1 .0))) (now (e .1 .1 .1 .1 .0))))
-  vector-from-iter-ours a r e are learnt = ours-on-two w i j _ _ _ _ _ _ refl are learnt
+  vector-from-iter-ours a r e are learnt = ours-on-two w i j _ _ _ _ _ _ refl are (learnt .row)

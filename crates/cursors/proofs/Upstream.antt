@@ -25,7 +25,7 @@ use Rattle.cursors.proofs.Cursor as fn
 module _ (κs : Lfts 1) (v : Ring) (s : RefT (List ℕ)) where
   pub ring-iter : (r : Begun) (e : AtExit fn.ring_iter.ended κs) → fn.ring_iter.Reads.Learnt κs (v, (s, tt)) r e
       → Begins ring (rings.tray v (now s)) (seenBegun r (rings.tray v (now s)))
-  ring-iter r e = law.iter-begins ring _ _
+  ring-iter r e learnt = law.iter-begins ring _ _ (learnt .row)
 
   pub ring-step-front : (u : Cursor) (r : Step) (e : AtExit fn.ring_step_front.ended κs) → fn.ring_step_front.Reads.Learnt κs (u, (v, (s, tt))) r e
       → StepsFront ring (rings.tray v (now s)) (cursor u) (seen r (rings.tray v (now s)))
@@ -46,11 +46,11 @@ module _ (κs : Lfts 1) (v : Ring) (s : RefT (List ℕ)) where
 module _ (κs : Lfts 1) (v : Vector) (s : RefT (List ℕ)) where
   pub vector-iter : (r : Begun) (e : AtExit fn.vector_iter.ended κs) → fn.vector_iter.Reads.Learnt κs (v, (s, tt)) r e
       → Begins vector (vectors.tray v (now s)) (seenBegun r (vectors.tray v (now s)))
-  vector-iter r e = law.iter-begins vector _ _
+  vector-iter r e learnt = law.iter-begins vector _ _ (learnt .row)
 
   pub vector-into-iter : (r : Begun) (e : AtExit fn.vector_into_iter.ended κs) → fn.vector_into_iter.Reads.Learnt κs (v, (s, tt)) r e
       → Begins vector (vectors.tray v (now s)) (seenBegun r (vectors.tray v (now s)))
-  vector-into-iter r e = law.into-iter-begins vector _ _
+  vector-into-iter r e learnt = law.into-iter-begins vector _ _ (learnt .row)
 
   pub vector-step-front : (u : Cursor) (r : Step) (e : AtExit fn.vector_step_front.ended κs) → fn.vector_step_front.Reads.Learnt κs (u, (v, (s, tt))) r e
       → StepsFront vector (vectors.tray v (now s)) (cursor u) (seen r (vectors.tray v (now s)))
@@ -71,8 +71,8 @@ module _ (κs : Lfts 1) (v : Vector) (s : RefT (List ℕ)) where
 module _ (κs : Lfts 2) (u : Cursor) (s z : RefT (List ℕ)) (w : Vector) (r : Taken) where
   pub ring-from-iter : (v : Ring) (e : AtExit fn.ring_from_iter.ended κs) → fn.ring_from_iter.Reads.Learnt κs (u, (v, (s, (w, (z, tt))))) r e
       → Fills ring vector (rings.tray v (now s)) (vectors.tray w (now z)) (cursor u) (seenInto r (rings.tray v (now s)) (now (e .1 .1 .1 .1 .0)))
-  ring-from-iter v e = law.from-iter-fills ring vector _ _ _ _
+  ring-from-iter v e learnt = law.from-iter-fills ring vector _ _ _ _ (learnt .row)
 
   pub vector-from-iter : (v : Vector) (e : AtExit fn.vector_from_iter.ended κs) → fn.vector_from_iter.Reads.Learnt κs (u, (v, (s, (w, (z, tt))))) r e
       → Fills vector vector (vectors.tray v (now s)) (vectors.tray w (now z)) (cursor u) (seenInto r (vectors.tray v (now s)) (now (e .1 .1 .1 .1 .0)))
-  vector-from-iter v e = law.from-iter-fills vector vector _ _ _ _
+  vector-from-iter v e learnt = law.from-iter-fills vector vector _ _ _ _ (learnt .row)

@@ -1,9 +1,13 @@
 -- How the code's cursor and answers are read: the number, value and cursor of paper 01 for each case.
 use Prim.Native.Nat.{ℕ}
+use mathlib.Core.Path.{_≡_}
 use mathlib.Core.List.{List}
+use Rattle.slots.specs.Layout.{Kind, vector}
 use Rattle.table.specs.Tray.{Tray, Cursor}
 use Rattle.table.specs.Table.{firstInvalid, beyond, empty, numberOf}
-use Rattle.table.specs.Does.{Outcome, Outcome2}
+use Rattle.table.specs.Calls.{Call, Call2}
+use Rattle.table.specs.Does.{Outcome, Outcome2, does, does2}
+use Rattle.table.specs.Reported.{noSlot}
 use Rattle.vector.specs.declared.Vector.{Vector}
 use Rattle.vector.specs.Seen.{tray, state}
 use Rattle.cursors.specs.declared.Cursor as code
@@ -38,6 +42,10 @@ cursorIn (Ended u) = cursor u
 abbrev pub seen : Step → Tray → Outcome
 seen s t = record { number = numberIn s; value = valueIn s; moves = 0; tray = t; cursor = cursorIn s }
 
+-- an enum's case has no room for a slot, and no step or peek has one to report
+abbrev pub slotIn : Step → ℕ
+slotIn s = noSlot
+
 -- iter and into_iter, likewise
 abbrev pub seenBegun : Begun → Tray → Outcome
 seenBegun a t = record { number = a .number; value = 0; moves = 0; tray = t; cursor = cursor (a .cursor) }
@@ -47,12 +55,22 @@ abbrev pub seenInto : Taken → Tray → List ℕ → Outcome2
 seenInto a t theirs =
     record { number = a .number; value = 0; moves = 0; first = t; second = tray (a .vector) theirs; cursor = cursor (a .cursor) }
 
+-- The promise of iter and into_iter on the container t: the answer is the row, and reports no slot.
+pub record Starts (k : Kind) (call : Call) (t : Tray) (a : Begun) : Type 0 where
+  pub row : seenBegun a t ≡ does k call t
+  pub slot : a .slot ≡ noSlot
+
+-- The promise of from_iter on the container t and the vector T, whose slots then hold `theirs`.
+pub record Takes (k : Kind) (call : Call2) (t t2 : Tray) (a : Taken) (theirs : List ℕ) : Type 0 where
+  pub row : seenInto a t theirs ≡ does2 k vector call t t2
+  pub slot : a .slot ≡ noSlot
+
 -- what the private functions `began`, `took` and `filled` answer
 abbrev pub beginning : (number back : ℕ) → Begun
-beginning number back = record { number = number; cursor = record { front = 0; back = back } }
+beginning number back = record { number = number; slot = noSlot; cursor = record { front = 0; back = back } }
 
 abbrev pub taking : ℕ → code.Cursor → Vector → Taken
-taking number u v = record { number = number; cursor = u; vector = v }
+taking number u v = record { number = number; slot = noSlot; cursor = u; vector = v }
 
 abbrev pub filling : (front back count : ℕ) → Taken
 filling front back count = taking 0 (record { front = front; back = back }) (state count)

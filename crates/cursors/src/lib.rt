@@ -25,12 +25,14 @@ pub enum Step {
 // What iter and into_iter answer; the cursor of a refused one is 0, 0.
 pub struct Begun {
     pub number: u8,
+    pub slot: usize,
     pub cursor: Cursor,
 }
 
 // What from_iter answers: the cursor afterwards, and T.
 pub struct Taken {
     pub number: u8,
+    pub slot: usize,
     pub cursor: Cursor,
     pub vector: Vector,
 }
@@ -40,6 +42,7 @@ fn began(number: u8, back: usize) -> Begun
 {
     Begun {
         number,
+        slot: slots::NO_SLOT,
         cursor: Cursor { front: 0, back },
     }
 }
@@ -49,6 +52,7 @@ fn took(number: u8, cursor: Cursor, vector: Vector) -> Taken
 {
     Taken {
         number,
+        slot: slots::NO_SLOT,
         cursor,
         vector,
     }

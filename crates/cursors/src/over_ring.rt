@@ -11,14 +11,14 @@ use vector::Vector;
 ghost use mathlib.Core.Path.{_≡_};
 ghost use Rattle.slots.specs.Layout.{ring, vector};
 ghost use Rattle.table.specs.Calls.{look, iter, intoIter, stepFront, stepBack, peekFront, peekBack, fromIter};
-ghost use Rattle.table.specs.Does.{does, does2};
+ghost use Rattle.table.specs.Does.{does};
 ghost use Rattle.ring.specs.Seen.{tray};
 ghost use Rattle.vector.specs.Seen as vectors;
-ghost use Rattle.cursors.specs.Seen.{cursor, seen, seenBegun, seenInto};
+ghost use Rattle.cursors.specs.Seen.{cursor, seen, Starts, Takes};
 
 impl Cursor {
     pub fn ring_iter(over: Ring, slots: &[u32]) -> Begun
-        ensures { λ r. ⌜ seenBegun r (tray over (now (slots .entry))) ≡ does ring (look iter) (tray over (now (slots .entry))) ⌝ }
+        ensures { λ r. ⌜ Starts ring (look iter) (tray over (now (slots .entry))) r ⌝ }
     {
         let head = over.head;
         let len = over.len;
@@ -29,7 +29,7 @@ impl Cursor {
     }
 
     pub fn ring_into_iter(over: Ring, slots: &[u32]) -> Begun
-        ensures { λ r. ⌜ seenBegun r (tray over (now (slots .entry))) ≡ does ring (look intoIter) (tray over (now (slots .entry))) ⌝ }
+        ensures { λ r. ⌜ Starts ring (look intoIter) (tray over (now (slots .entry))) r ⌝ }
     {
         Cursor::ring_iter(over, slots)
     }
@@ -132,7 +132,7 @@ impl Cursor {
 
     // The empty vector T gets the remaining entries, and the cursor ends.
     pub fn ring_from_iter(self, over: Ring, slots: &[u32], to: Vector, theirs: &mut [u32]) -> Taken
-        ensures { λ r. ⌜ seenInto r (tray over (now (slots .entry))) (now (theirs .exit)) ≡ does2 ring vector (fromIter (cursor self)) (tray over (now (slots .entry))) (vectors.tray to (now (theirs .entry))) ⌝ }
+        ensures { λ r. ⌜ Takes ring (fromIter (cursor self)) (tray over (now (slots .entry))) (vectors.tray to (now (theirs .entry))) r (now (theirs .exit)) ⌝ }
     {
         let cap = slots.len();
         let head = over.head;

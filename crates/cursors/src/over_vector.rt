@@ -10,13 +10,13 @@ use vector::Vector;
 ghost use mathlib.Core.Path.{_≡_};
 ghost use Rattle.slots.specs.Layout.{vector};
 ghost use Rattle.table.specs.Calls.{look, iter, intoIter, stepFront, stepBack, peekFront, peekBack, fromIter};
-ghost use Rattle.table.specs.Does.{does, does2};
+ghost use Rattle.table.specs.Does.{does};
 ghost use Rattle.vector.specs.Seen.{tray};
-ghost use Rattle.cursors.specs.Seen.{cursor, seen, seenBegun, seenInto};
+ghost use Rattle.cursors.specs.Seen.{cursor, seen, Starts, Takes};
 
 impl Cursor {
     pub fn vector_iter(over: Vector, slots: &[u32]) -> Begun
-        ensures { λ r. ⌜ seenBegun r (tray over (now (slots .entry))) ≡ does vector (look iter) (tray over (now (slots .entry))) ⌝ }
+        ensures { λ r. ⌜ Starts vector (look iter) (tray over (now (slots .entry))) r ⌝ }
     {
         let len = over.len;
         if table::invalid_vector(slots.len(), len) {
@@ -26,7 +26,7 @@ impl Cursor {
     }
 
     pub fn vector_into_iter(over: Vector, slots: &[u32]) -> Begun
-        ensures { λ r. ⌜ seenBegun r (tray over (now (slots .entry))) ≡ does vector (look intoIter) (tray over (now (slots .entry))) ⌝ }
+        ensures { λ r. ⌜ Starts vector (look intoIter) (tray over (now (slots .entry))) r ⌝ }
     {
         Cursor::vector_iter(over, slots)
     }
@@ -131,7 +131,7 @@ impl Cursor {
         to: Vector,
         theirs: &mut [u32],
     ) -> Taken
-        ensures { λ r. ⌜ seenInto r (tray over (now (slots .entry))) (now (theirs .exit)) ≡ does2 vector vector (fromIter (cursor self)) (tray over (now (slots .entry))) (tray to (now (theirs .entry))) ⌝ }
+        ensures { λ r. ⌜ Takes vector (fromIter (cursor self)) (tray over (now (slots .entry))) (tray to (now (theirs .entry))) r (now (theirs .exit)) ⌝ }
     {
         let cap = slots.len();
         let len = over.len;

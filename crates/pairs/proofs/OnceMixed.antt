@@ -12,5 +12,5 @@ use Rattle.pairs.proofs.mixed as fn
 module _ (κs : Lfts 2) where
   pub same-as-vector-once : Twice fn.same_as_vector.ended κs (fn.same_as_vector.Reads.Learnt κs) (λ r e r′ e′. r ≡ r′)
   same-as-vector-once a r r′ e e′ p q =
-      one-answer2 seen2 (λ o. record { number = o .number; value = o .value; moves = o .moves; first = rings.state (o .first .head) (o .first .len); second = vectors.state (o .second .len) })
-      (λ r s s2. refl) (λ r s s2. refl) (λ r s s2. refl) _ r r′ _ _ _ _ (p .row) (q .row) .0
+      one-answer2 seen2 (λ r. r .slot) (λ o n. record { number = o .number; value = o .value; moves = o .moves; slot = n; first = rings.state (o .first .head) (o .first .len); second = vectors.state (o .second .len) })
+      (λ r s s2. refl) (λ r s s2. refl) (λ r s s2. refl) _ _ r r′ _ _ _ _ (p .row) (q .row) (p .slot) (q .slot) .0

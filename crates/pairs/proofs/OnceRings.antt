@@ -18,8 +18,8 @@ use Rattle.pairs.proofs.rings as fn
 one : {call : Call2} {v w : Ring} {b b2 : List ℕ} (r r′ : Both) (s s2 s′ s2′ : List ℕ) → Meets call v b w b2 r s s2 → Meets call v b w b2 r′ s′ s2′
     → (r ≡ r′) × (s ≡ s′) × (s2 ≡ s2′)
 one r r′ s s2 s′ s2′ p q =
-    one-answer2 seen2 (λ o. record { number = o .number; value = o .value; moves = o .moves; first = state (o .first .head) (o .first .len); second = state (o .second .head) (o .second .len) })
-    (λ r s s2. refl) (λ r s s2. refl) (λ r s s2. refl) _ r r′ s s2 s′ s2′ (p .row) (q .row)
+    one-answer2 seen2 (λ r. r .slot) (λ o n. record { number = o .number; value = o .value; moves = o .moves; slot = n; first = state (o .first .head) (o .first .len); second = state (o .second .head) (o .second .len) })
+    (λ r s s2. refl) (λ r s s2. refl) (λ r s s2. refl) _ _ r r′ s s2 s′ s2′ (p .row) (q .row) (p .slot) (q .slot)
 
 -- In what follows a are the arguments, r and r′ are results, and e and e′ the arguments as they are at the return.
 module _ (κs : Lfts 2) where

@@ -17,9 +17,9 @@ use Rattle.vector.proofs.Told as vectors-told
 use Rattle.pairs.specs.declared.mixed.Both.{Both}
 use Rattle.pairs.specs.Mixed.{seen2, Meets, says}
 
-pub meets : (call : Call2) (first : Ring) (second : Vector) (s z s′ z′ : List ℕ) (a : Both)
-    → seen2 a s′ z′ ≡ does2 ring vector call (rings.tray first s) (vectors.tray second z) → Meets call first s second z a s′ z′
-meets call first second s z s′ z′ a e = record { row = e }
+pub meets : (call : Call2) (first : Ring) (second : Vector) (s z s′ z′ : List ℕ) (a : Both) (m value : ℕ) (f : Ring) (g : Vector)
+    → a ≡ says m value f g → seen2 a s′ z′ ≡ does2 ring vector call (rings.tray first s) (vectors.tray second z) → Meets call first s second z a s′ z′
+meets call first second s z s′ z′ a m value f g is e = record { row = e; slot = ap (λ a. a .slot) is }
 
 module _ (first : Ring) (second : Vector) (s z : List ℕ) (a : Both) where
   pub answered : (m : ℕ) → a ≡ says m 0 first second → seen2 a s z ≡ refused2 (rings.tray first s) (vectors.tray second z) nowhere m

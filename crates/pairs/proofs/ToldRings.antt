@@ -14,9 +14,10 @@ use Rattle.ring.proofs.Told.{home}
 use Rattle.pairs.specs.declared.rings.Both.{Both}
 use Rattle.pairs.specs.Rings.{seen2, Meets, says}
 
-pub meets : (call : Call2) (first second : Ring) (s z s′ z′ : List ℕ) (a : Both) → seen2 a s′ z′ ≡ does2 ring ring call (tray first s) (tray second z)
+pub meets : (call : Call2) (first second : Ring) (s z s′ z′ : List ℕ) (a : Both) (m value : ℕ) (f : Ring) (g : Ring)
+    → a ≡ says m value f g → seen2 a s′ z′ ≡ does2 ring ring call (tray first s) (tray second z)
     → Meets call first s second z a s′ z′
-meets call first second s z s′ z′ a e = record { row = e }
+meets call first second s z s′ z′ a m value f g is e = record { row = e; slot = ap (λ a. a .slot) is }
 
 pub answered : (first second : Ring) (s s2 : List ℕ) (a : Both) (m : ℕ) → a ≡ says m 0 first second
     → seen2 a s s2 ≡ refused2 (tray first s) (tray second s2) nowhere m

@@ -6,6 +6,7 @@ use Rattle.slots.specs.Layout.{ring}
 use Rattle.table.specs.Tray.{nowhere}
 use Rattle.table.specs.Calls.{Call2}
 use Rattle.table.specs.Does.{Outcome2, does2}
+use Rattle.table.specs.Reported.{noSlot}
 use Rattle.ring.specs.declared.Ring.{Ring}
 use Rattle.ring.specs.Seen.{tray}
 use Rattle.pairs.specs.declared.rings.Both.{Both}
@@ -20,10 +21,12 @@ seen2 a slots theirs = record {
   cursor = nowhere;
 }
 
--- The promise of a call on the first, whose slots held s, and on T, whose slots held z: its answer a and what the slots hold afterwards are its row.
+-- The promise of a call on the first, whose slots held s, and on T, whose slots held z: its answer a and what the slots hold afterwards are its row, and it reports
+-- no slot.
 pub record Meets (call : Call2) (first : Ring) (s : List ℕ) (second : Ring) (z : List ℕ) (a : Both) (s′ z′ : List ℕ) : Type 0 where
   pub row : seen2 a s′ z′ ≡ does2 ring ring call (tray first s) (tray second z)
+  pub slot : a .slot ≡ noSlot
 
 -- what the function `says` puts together
 abbrev pub says : (number value : ℕ) → (first second : Ring) → Both
-says number value first second = record { number = number; value = value; moves = 0; first = first; second = second }
+says number value first second = record { number = number; value = value; moves = 0; slot = noSlot; first = first; second = second }

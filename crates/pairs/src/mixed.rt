@@ -10,6 +10,7 @@ pub struct Both {
     pub number: u8,
     pub value: u32,
     pub moves: usize,
+    pub slot: usize,
     pub first: Ring,
     pub second: Vector,
 }
@@ -44,6 +45,7 @@ fn says(number: u8, value: u32, first: Ring, second: Vector) -> Both
         number,
         value,
         moves: 0,
+        slot: slots::NO_SLOT,
         first,
         second,
     }

@@ -13,6 +13,7 @@ pub struct Both {
     pub number: u8,
     pub value: u32,
     pub moves: usize,
+    pub slot: usize,
     pub first: Ring,
     pub second: Ring,
 }
@@ -140,6 +141,7 @@ fn says(number: u8, value: u32, first: Ring, second: Ring) -> Both
         number,
         value,
         moves: 0,
+        slot: slots::NO_SLOT,
         first,
         second,
     }

@@ -10,6 +10,7 @@ pub struct Both {
     pub number: u8,
     pub value: u32,
     pub moves: usize,
+    pub slot: usize,
     pub first: Vector,
     pub second: Vector,
 }
@@ -120,6 +121,7 @@ fn says(number: u8, value: u32, first: Vector, second: Vector) -> Both
         number,
         value,
         moves: 0,
+        slot: slots::NO_SLOT,
         first,
         second,
     }

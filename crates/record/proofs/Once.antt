@@ -18,8 +18,8 @@ use Rattle.record.proofs.texts as texts
 module _ (κs : Lfts 3) where
   pub read-once : Twice read·fn.ended κs (read·reads.Learnt κs) (λ r e r′ e′. (r ≡ r′) × (now (e .1 .1 .0) ≡ now (e′ .1 .1 .0)) × (now (e .1 .1 .1 .1 .0) ≡ now (e′ .1 .1 .1 .1 .0)))
   read-once a r r′ e e′ p q =
-      one-answer2 seen2 (λ o. record { number = o .number; value = o .value; moves = o .moves; first = state (o .first .len); second = state (o .second .len) })
-      (λ r s s2. refl) (λ r s s2. refl) (λ r s s2. refl) _ r r′ _ _ _ _ (p .row) (q .row)
+      one-answer2 seen2 (λ r. r .slot) (λ o n. record { number = o .number; value = o .value; moves = o .moves; slot = n; first = state (o .first .len); second = state (o .second .len) })
+      (λ r s s2. refl) (λ r s s2. refl) (λ r s s2. refl) _ _ r r′ _ _ _ _ (p .row) (q .row) (p .slot) (q .slot)
 
 module _ (κs : Lfts 1) where
   pub judge-once : Twice judge·fn.ended κs (judge·reads.Learnt κs) (λ r e r′ e′. r ≡ r′)

@@ -9,6 +9,7 @@ use Rattle.slots.specs.Layout.{Kind, ring, vector}
 use Rattle.table.specs.Tray.{Tray, cap, valid, nowhere}
 use Rattle.table.specs.Table.{holding}
 use Rattle.table.specs.Does.{Outcome2, refused2, relay}
+use Rattle.table.specs.Reported.{noSlot}
 use Rattle.table.specs.Ledger.{enters}
 use Rattle.table.specs.Promise.{Promise2}
 use Rattle.vector.specs.declared.Vector.{Vector}
@@ -68,9 +69,11 @@ records text t t2 =
     (earlyTests (cap t) (t .len) (cap t2) (t2 .len) (length text) ++ lateTests text (cap t) (cap t2))
     (places text t t2)
 
--- The promise of `read` on a text and two vectors whose slots held s and z: its answer a and what the slots hold afterwards.
+-- The promise of `read` on a text and two vectors whose slots held s and z: its answer a and what the slots hold afterwards. It
+-- reports no slot.
 pub record Records (text : List ℕ) (first : Vector) (s : List ℕ) (second : Vector) (z : List ℕ) (a : Both) (s′ z′ : List ℕ) : Type 0 where
   pub row : seen2 a s′ z′ ≡ records text (tray first s) (tray second z)
+  pub slot : a .slot ≡ noSlot
 
 -- The call as demand 3 takes it: of two vectors, and the starts and ends enter.
 abbrev pub twoVectors : (k k2 : Kind) → Bool

@@ -377,6 +377,7 @@ fn says(number: u8, value: u32, first: Vector, second: Vector) -> Both
         number,
         value,
         moves: 0,
+        slot: slots::NO_SLOT,
         first,
         second,
     }

@@ -5,21 +5,23 @@ use cursors::Cursor;
 use cursors::Step;
 use cursors::Taken;
 
-// What a call answers, how many bytes of the text are printed after the slots, and the desk afterwards.
+// What a call answers, the slot that it reports, how many bytes of the text are printed after the slots, and the desk afterwards.
 pub(crate) struct Did {
     pub(crate) number: u8,
     pub(crate) value: u32,
     pub(crate) moves: usize,
+    pub(crate) slot: usize,
     pub(crate) shown: usize,
     pub(crate) desk: Desk,
 }
 
 impl Desk {
-    fn did(self, number: u8, value: u32, moves: usize) -> Did {
+    fn did(self, number: u8, value: u32, moves: usize, slot: usize) -> Did {
         Did {
             number,
             value,
             moves,
+            slot,
             shown: 0,
             desk: self,
         }
@@ -28,12 +30,12 @@ impl Desk {
     pub(crate) fn after_ring(mut self, a: ring::Answer) -> Did {
         let first = a.ring;
         self.first = first;
-        self.did(a.number, a.value, a.moves)
+        self.did(a.number, a.value, a.moves, a.slot)
     }
 
     pub(crate) fn after_vector(mut self, a: vector::Answer) -> Did {
         self.first = ring::state(0, a.vector.len);
-        self.did(a.number, a.value, a.moves)
+        self.did(a.number, a.value, a.moves, a.slot)
     }
 
     pub(crate) fn after_rings(mut self, a: pairs::rings::Both) -> Did {
@@ -41,53 +43,55 @@ impl Desk {
         let second = a.second;
         self.first = first;
         self.second = second;
-        self.did(a.number, a.value, a.moves)
+        self.did(a.number, a.value, a.moves, a.slot)
     }
 
     pub(crate) fn after_vectors(mut self, a: pairs::vectors::Both) -> Did {
         self.first = ring::state(0, a.first.len);
         self.second = ring::state(0, a.second.len);
-        self.did(a.number, a.value, a.moves)
+        self.did(a.number, a.value, a.moves, a.slot)
     }
 
     pub(crate) fn after_mixed(mut self, a: pairs::mixed::Both) -> Did {
         let first = a.first;
         self.first = first;
         self.second = ring::state(0, a.second.len);
-        self.did(a.number, a.value, a.moves)
+        self.did(a.number, a.value, a.moves, a.slot)
     }
 
-    // A part bears no number: its length stands as the value, and a line for each entry is in the text.
+    // A part bears no number and reports no slot: its length stands as the value, and a line for each entry is in the text.
     pub(crate) fn after_part(mut self, count: usize) -> Did {
         let n = crate::desks::least(count, 4200);
         self.first = ring::state(0, self.first.len);
-        let mut did = self.did(0, n as u32, 0);
+        let mut did = self.did(0, n as u32, 0, slots::NO_SLOT);
         did.shown = 9 * n;
         did
     }
 
-    fn after_walk(mut self, number: u8, value: u32, cursor: Cursor) -> Did {
+    fn after_walk(mut self, number: u8, value: u32, slot: usize, cursor: Cursor) -> Did {
         self.cursor = cursor;
-        self.did(number, value, 0)
+        self.did(number, value, 0, slot)
     }
 
     pub(crate) fn after_begun(self, b: Begun) -> Did {
         let cursor = b.cursor;
-        self.after_walk(b.number, 0, cursor)
+        self.after_walk(b.number, 0, b.slot, cursor)
     }
 
+    // A step and a peek report no slot.
     pub(crate) fn after_step(self, s: Step) -> Did {
+        let slot = slots::NO_SLOT;
         match s {
-            Step::Entry(x, cursor) => self.after_walk(0, x, cursor),
-            Step::Invalid(cursor) => self.after_walk(1, 0, cursor),
-            Step::Astray(cursor) => self.after_walk(3, 0, cursor),
-            Step::Ended(cursor) => self.after_walk(4, 0, cursor),
+            Step::Entry(x, cursor) => self.after_walk(0, x, slot, cursor),
+            Step::Invalid(cursor) => self.after_walk(1, 0, slot, cursor),
+            Step::Astray(cursor) => self.after_walk(3, 0, slot, cursor),
+            Step::Ended(cursor) => self.after_walk(4, 0, slot, cursor),
         }
     }
 
     pub(crate) fn after_taken(mut self, t: Taken) -> Did {
         let cursor = t.cursor;
         self.second = ring::state(0, t.vector.len);
-        self.after_walk(t.number, 0, cursor)
+        self.after_walk(t.number, 0, t.slot, cursor)
     }
 }

@@ -1,6 +1,8 @@
--- The laws that the proofs of the ring's functions cite, what ties its calls to demand 3, that each has one answer, and upstream's clauses.
+-- The laws that the proofs of the ring's functions cite, what ties its calls to demand 3, that each has one answer, upstream's clauses, an empty
+-- ring's head, and the slot that is reported.
 pub mod Told
 pub mod Ours
 pub mod Once
 pub mod Upstream
 pub mod Home
+pub mod Lamp

@@ -11,7 +11,7 @@ use Rattle.table.specs.Does.{Outcome}
 use Rattle.table.proofs.Theorems.Unique.{one-answer}
 use Rattle.ring.specs.declared.Ring.{Ring}
 use Rattle.ring.specs.declared.Answer.{Answer}
-use Rattle.ring.specs.Seen.{seen, Meets, Makes, state, says}
+use Rattle.ring.specs.Seen.{seen, Meets, Makes, state}
 use Rattle.ring.proofs.Ring as fn
 use Rattle.ring.proofs.state as state·fn
 use Rattle.ring.proofs.left as left·fn
@@ -19,17 +19,18 @@ use Rattle.ring.proofs.refused as refused·fn
 use Rattle.ring.proofs.shows as shows·fn
 use Rattle.ring.proofs.done as done·fn
 
--- an answer is told by what is seen of it
-told-by : (o : Outcome) (r r′ : Answer) (s s′ : List ℕ) → seen r s ≡ o → seen r′ s′ ≡ o → (r ≡ r′) × (s ≡ s′)
+-- an answer is told by what is seen of it and by the slot that it reports
+told-by : (o : Outcome) (n : ℕ) (r r′ : Answer) (s s′ : List ℕ) → seen r s ≡ o → seen r′ s′ ≡ o → r .slot ≡ n → r′ .slot ≡ n → (r ≡ r′) × (s ≡ s′)
 told-by =
-    one-answer seen (λ o. says (o .number) (o .value) (o .moves) (state (o .tray .head) (o .tray .len))) (λ r s. refl) (λ r s. refl)
+    one-answer seen (λ r. r .slot) (λ o n. record { number = o .number; value = o .value; moves = o .moves; slot = n; ring = state (o .tray .head) (o .tray .len) })
+    (λ r s. refl) (λ r s. refl)
 
 -- every promise of this crate is `Meets`, a making's `Makes`
 one : {call : Call} {v : Ring} {b : List ℕ} (r r′ : Answer) (s s′ : List ℕ) → Meets call v b r s → Meets call v b r′ s′ → (r ≡ r′) × (s ≡ s′)
-one r r′ s s′ p q = told-by _ r r′ s s′ (p .row) (q .row)
+one r r′ s s′ p q = told-by _ _ r r′ s s′ (p .row) (q .row) (p .slot) (q .slot)
 
 one-made : {m : Making} {b : List ℕ} (r r′ : Answer) (s s′ : List ℕ) → Makes m b r s → Makes m b r′ s′ → (r ≡ r′) × (s ≡ s′)
-one-made r r′ s s′ p q = told-by _ r r′ s s′ (p .row) (q .row)
+one-made r r′ s s′ p q = told-by _ _ r r′ s s′ (p .row) (q .row) (p .slot) (q .slot)
 
 -- In what follows a are the arguments, r and r′ are results, and e and e′ the arguments as they are at the return.
 module _ (κs : Lfts 1) where

@@ -4,7 +4,7 @@ ghost use Rattle.table.specs.Calls.{new, withCapacity, look, len, read, reserve
 ghost use Rattle.table.specs.Calls.{write, push, pushFront, pop, popFront, insert, remove, truncate, resize, clear};
 ghost use Rattle.slots.specs.Layout.{ring};
 ghost use Rattle.table.specs.Does.{headAfter};
-ghost use Rattle.ring.specs.Seen.{Meets, Makes, state, says};
+ghost use Rattle.ring.specs.Seen.{Meets, Makes, state, says, lit};
 
 // The state: the slot of position 0, and how many entries there are.
 pub struct Ring {
@@ -12,11 +12,12 @@ pub struct Ring {
     pub len: usize,
 }
 
-// What a call answers, with the state afterwards.
+// What a call answers, with the slot of the entry concerned and the state afterwards.
 pub struct Answer {
     pub number: u8,
     pub value: u32,
     pub moves: usize,
+    pub slot: usize,
     pub ring: Ring,
 }
 
@@ -68,7 +69,7 @@ impl Ring {
             return refused(3, self);
         }
         let at = slots::slot(cap, head, i); // i < len: a free slot's number is no entry
-        shows(slots[at], self)
+        lit(at, shows(slots[at], self))
     }
 
     // Asks whether there is room for k more, and changes nothing.
@@ -102,7 +103,7 @@ impl Ring {
         let at = slots::slot(cap, head, i);
         let old = slots[at];
         slots[at] = x;
-        shows(old, self)
+        lit(at, shows(old, self))
     }
 
     pub fn push_back(self, slots: &mut [u32], x: u32) -> Answer
@@ -119,7 +120,7 @@ impl Ring {
         }
         let at = slots::slot(cap, head, len);
         slots[at] = x;
-        done(0, 0, head, len + 1)
+        lit(at, done(0, 0, head, len + 1))
     }
 
     pub fn push_front(self, slots: &mut [u32], x: u32) -> Answer
@@ -134,9 +135,9 @@ impl Ring {
             }
             return refused(6, self);
         }
-        let first = slots::slot(cap, head, cap - 1); // of an empty ring too, whose head is 0
+        let first = slots::one_back(cap, head); // of an empty ring too, whose head is 0
         slots[first] = x;
-        done(0, 0, first, len + 1)
+        lit(first, done(0, 0, first, len + 1))
     }
 
     pub fn pop_back(self, slots: &mut [u32]) -> Answer
@@ -154,7 +155,7 @@ impl Ring {
         let at = slots::slot(cap, head, len - 1);
         let old = slots[at];
         slots[at] = 0;
-        took(old, 0, head, len - 1)
+        lit(at, took(old, 0, head, len - 1))
     }
 
     pub fn pop_front(self, slots: &mut [u32]) -> Answer
@@ -171,7 +172,8 @@ impl Ring {
         }
         let old = slots[head];
         slots[head] = 0;
-        took(old, 0, slots::slot(cap, head, 1), len - 1)
+        let front = slots::one_on(cap, head);
+        lit(head, took(old, 0, front, len - 1))
     }
 
     // The fewer entries are carried: those before i, or those from i on.
@@ -191,16 +193,16 @@ impl Ring {
             return refused(6, self);
         }
         if i < len - i {
-            let front = slots::slot(cap, head, cap - 1);
+            let front = slots::one_back(cap, head);
             runs::shift_down(slots, front, 0, i);
             let at = slots::slot(cap, front, i);
             slots[at] = x;
-            return done(0, i, front, len + 1);
+            return lit(at, done(0, i, front, len + 1));
         }
         runs::shift_up(slots, head, i, len);
         let at = slots::slot(cap, head, i);
         slots[at] = x;
-        done(0, len - i, head, len + 1)
+        lit(at, done(0, len - i, head, len + 1))
     }
 
     // The fewer entries are carried: those before i, or those after. Where those before i are fewer, some are left.
@@ -222,12 +224,13 @@ impl Ring {
         if i < last - i {
             runs::shift_up(slots, head, 0, i);
             slots[head] = 0;
-            return done(old, i, slots::slot(cap, head, 1), last);
+            let front = slots::one_on(cap, head);
+            return lit(at, done(old, i, front, last));
         }
         runs::shift_down(slots, head, i, last);
         let freed = slots::slot(cap, head, last);
         slots[freed] = 0;
-        took(old, last - i, head, last)
+        lit(at, took(old, last - i, head, last))
     }
 
     // A ring on no slots has no slot for its head: where there is nothing to fill, here and below, that is a return of its own.
@@ -312,6 +315,21 @@ fn says(number: u8, value: u32, moves: usize, ring: Ring) -> Answer
         number,
         value,
         moves,
+        slot: slots::NO_SLOT,
+        ring,
+    }
+}
+
+// A lamp lights at the slot concerned: the one that the call has used.
+fn lit(at: usize, a: Answer) -> Answer
+    ensures { λ r. ⌜ r ≡ lit at a ⌝ }
+{
+    let ring = a.ring;
+    Answer {
+        number: a.number,
+        value: a.value,
+        moves: a.moves,
+        slot: at,
         ring,
     }
 }

@@ -3,6 +3,7 @@ use Prim.Native.Nat.{ℕ}
 use mathlib.Core.Path.{_≡_}
 use mathlib.Core.List.{List}
 use Rattle.slots.specs.Layout.{ring, vector}
+use Rattle.table.specs.Reported.{noSlot}
 use Rattle.ring.specs.declared.Ring.{Ring}
 use Rattle.ring.specs.declared.Answer as ringAnswer
 use Rattle.ring.specs.Seen as rings
@@ -17,9 +18,12 @@ seenRing a slots text = record { outcome = rings.seen a slots; text = text }
 abbrev pub seenVector : vectorAnswer.Answer → (slots text : List ℕ) → Written
 seenVector a slots text = record { outcome = vectors.seen a slots; text = text }
 
--- The promise of the writer for a ring whose slots hold these numbers: its answer and every byte of the text are what `writes` says.
+-- The promise of the writer for a ring whose slots hold these numbers: its answer and every byte of the text are what `writes` says,
+-- and it reports no slot.
 pub record RingStored (over : Ring) (slots before : List ℕ) (a : ringAnswer.Answer) (after : List ℕ) : Type 0 where
   pub row : seenRing a slots after ≡ writes ring (rings.tray over slots) before
+  pub slot : a .slot ≡ noSlot
 
 pub record VectorStored (over : Vector) (slots before : List ℕ) (a : vectorAnswer.Answer) (after : List ℕ) : Type 0 where
   pub row : seenVector a slots after ≡ writes vector (vectors.tray over slots) before
+  pub slot : a .slot ≡ noSlot

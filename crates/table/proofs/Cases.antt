@@ -3,6 +3,7 @@ pub mod Samples
 pub mod Worked
 pub mod WorkedChanges
 pub mod WorkedEmptied
+pub mod WorkedReported
 pub mod WorkedTwo
 pub mod WorkedSame
 pub mod WorkedMakings

@@ -22,7 +22,7 @@ const ENOUGH: u64 = 18446744073709547519; // 2^64 − 4097
 
 // What a run of bytes is answered: with room for all answers no byte of it is left over.
 fn say(s: State, part: &[u8], out: &mut [u8]) -> Fed
-    requires { ⌜ 23 * length (now part) ≤ length (now out) ⌝ }
+    requires { ⌜ 27 * length (now part) ≤ length (now out) ⌝ }
     ensures { λ r. ⌜ (midway (r .state) ≡ feeds keeping (midway s) (now (part .entry)) .state) × (r .count ≤ length (now (out .exit))) ⌝ }
 {
     tray_lines::feeds::feed(s, part, out)
@@ -30,7 +30,7 @@ fn say(s: State, part: &[u8], out: &mut [u8]) -> Fed
 
 // One read, what it is answered, and one write. At the end of the input no byte is read.
 fn turn(went: Went, buf: &mut [u8], out: &mut [u8]) -> Went
-    requires { ⌜ (went .read < 18446744073709547519) × (length (now buf) ≤ 4096) × (23 * length (now buf) ≤ length (now out)) ⌝ }
+    requires { ⌜ (went .read < 18446744073709547519) × (length (now buf) ≤ 4096) × (27 * length (now buf) ≤ length (now out)) ⌝ }
     ensures { λ r. ⌜ Turned went (now (buf .exit)) r ⌝ }
 {
     let so_far = went.read;
@@ -51,7 +51,7 @@ fn turn(went: Went, buf: &mut [u8], out: &mut [u8]) -> Went
 
 // Until the input ends or the output is closed. What a turn gives back is what the next one begins with.
 fn run(first: State, buf: &mut [u8], out: &mut [u8]) -> Went
-    requires { ⌜ (length (now buf) ≤ 4096) × (23 * length (now buf) ≤ length (now out)) ⌝ }
+    requires { ⌜ (length (now buf) ≤ 4096) × (27 * length (now buf) ≤ length (now out)) ⌝ }
     ensures { λ r. ⌜ Ran first r ⌝ }
 {
     let mut went = Went {
@@ -71,7 +71,7 @@ fn run(first: State, buf: &mut [u8], out: &mut [u8]) -> Went
 // The last line, where it has no LF and isn't empty. Where the output is closed nothing more is written.
 fn main() {
     let mut buf = io::buffer();
-    let mut out = [0u8; 94208]; // 23 bytes for each that is read
+    let mut out = [0u8; 110592]; // 27 bytes for each that is read
     let first = tray_lines::feeds::fresh(tray_lines::acts::start());
     let went = run(first, &mut buf, &mut out);
     if went.heard {

@@ -17,7 +17,7 @@ use Rattle.tray_lines.specs.Acts.{Acts, acts}
 use Rattle.tray_lines.specs.Seen.{actedSeen}
 use Rattle.tray_lines.specs.Answers.{lineOf, bare, Tells, tellsOf, tells}
 
-pub length-line : (a : Answer) → length (lineOf a) ≡ 23
+pub length-line : (a : Answer) → length (lineOf a) ≡ 27
 unfolding lineOf
 length-line a = simp (length-append, length-hex)
 
@@ -25,22 +25,27 @@ length-line a = simp (length-append, length-hex)
 pub all-of : (s text : List ℕ) → length s ≡ length text → put text 0 s ≡ s
 all-of s text e = put-start text s (omega arith) ∙ ap (λ (r : List ℕ). s ++ r) (drop-of-length-le text {i = length s} (omega arith)) ∙ append-nil s
 
--- five numbers and the end, each put where the one before it ends
-pub line-put : (z a b c d e : List ℕ) (x : Answer) → z ≡ replicate 23 0 → a ≡ putWhole z 0 (hex 2 (x .number)) → b ≡ putWhole a 2 (hex 8 (x .value))
-    → c ≡ putWhole b 10 (hex 4 (x .moves)) → d ≡ putWhole c 14 (hex 4 (x .head)) → e ≡ putWhole d 18 (hex 4 (x .len)) → set e 22 10 ≡ lineOf x
+-- six numbers and the end, each put where the one before it ends
+pub line-put : (z a b c d e f : List ℕ) (x : Answer) → z ≡ replicate 27 0 → a ≡ putWhole z 0 (hex 2 (x .number)) → b ≡ putWhole a 2 (hex 8 (x .value))
+    → c ≡ putWhole b 10 (hex 4 (x .moves)) → d ≡ putWhole c 14 (hex 4 (x .head)) → e ≡ putWhole d 18 (hex 4 (x .len))
+    → f ≡ putWhole e 22 (hex 4 (x .slot)) → set f 26 10 ≡ lineOf x
 unfolding lineOf
-line-put z a b c d e x ez ea eb ec ed ee =
-    let long : 23 ≤ length z = omega (arith, ap length ez) in
-    let pa = put-within 23 z a 0 2 (x .number) long ea (omega arith) in
-    let pb = put-within 23 a b 2 8 (x .value) (pa .1) eb (omega arith) in
-    let pc = put-within 23 b c 10 4 (x .moves) (pb .1) ec (omega arith) in
-    let pd = put-within 23 c d 14 4 (x .head) (pc .1) ed (omega arith) in
-    let pe = put-within 23 d e 18 4 (x .len) (pd .1) ee (omega arith) in
-    let s4 : List ℕ = hex 4 (x .len) ++ (lf ∷ []) in
+line-put z a b c d e f x ez ea eb ec ed ee ef =
+    let long : 27 ≤ length z = omega (arith, ap length ez) in
+    let pa = put-within 27 z a 0 2 (x .number) long ea (omega arith) in
+    let pb = put-within 27 a b 2 8 (x .value) (pa .1) eb (omega arith) in
+    let pc = put-within 27 b c 10 4 (x .moves) (pb .1) ec (omega arith) in
+    let pd = put-within 27 c d 14 4 (x .head) (pc .1) ed (omega arith) in
+    let pe = put-within 27 d e 18 4 (x .len) (pd .1) ee (omega arith) in
+    let pf = put-within 27 e f 22 4 (x .slot) (pe .1) ef (omega arith) in
+    let s5 : List ℕ = hex 4 (x .slot) ++ (lf ∷ []) in
+    let s4 : List ℕ = hex 4 (x .len) ++ s5 in
     let s3 : List ℕ = hex 4 (x .head) ++ s4 in
     let s2 : List ℕ = hex 4 (x .moves) ++ s3 in
     let s1 : List ℕ = hex 8 (x .value) ++ s2 in
-    put-ended d e 18 4 (x .len) lf (pe .0)
+    put-ended e f 22 4 (x .slot) lf (pf .0)
+    ∙ ap (λ t. put t 22 s5) (pe .0)
+    ∙ after-hex d 18 4 (x .len) 22 s5 refl
     ∙ ap (λ t. put t 18 s4) (pd .0)
     ∙ after-hex c 14 4 (x .head) 18 s4 refl
     ∙ ap (λ t. put t 14 s3) (pc .0)
@@ -51,13 +56,13 @@ line-put z a b c d e x ez ea eb ec ed ee =
     ∙ after-hex z 0 2 (x .number) 2 s1 refl
     ∙ all-of (lineOf x) z (length-line x ∙ sym (ap length ez))
 
-length-of : (w : World) (s : Said) → length (tellsOf w s .text) ≡ 23
+length-of : (w : World) (s : Said) → length (tellsOf w s .text) ≡ 27
 length-of w (Said.Call c) = length-line (acts w c .answer)
 length-of w Said.Garbled = length-line (bare 7)
 length-of w Said.Unknown = length-line (bare 8)
 
--- every answer has 23 bytes
-pub length-tells : (w : World) (l : List ℕ) → length (tells w l .text) ≡ 23
+-- every answer has 27 bytes
+pub length-tells : (w : World) (l : List ℕ) → length (tells w l .text) ≡ 27
 unfolding tells
 length-tells w l = length-of w (said l)
 

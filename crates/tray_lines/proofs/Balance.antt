@@ -99,7 +99,7 @@ goes t0 t1 t2 t3 v (Call.Ring false op) = record {
         t1 = o .second;
         t2 = t2;
         t3 = t3;
-        is = sym (ap (λ (a : Acts). a .world) (on-0 t0 t1 t2 t3 o (ringAct op) refl));
+        is = sym (ap (λ (a : Acts). a .world) (on-0 t0 t1 t2 t3 o _ (ringAct op) refl refl));
         valid = (ok .0, ok .1, v .2, v .3);
       };
 }
@@ -113,7 +113,7 @@ goes t0 t1 t2 t3 v (Call.Ring true op) = record {
         t1 = o .first;
         t2 = t2;
         t3 = t3;
-        is = sym (ap (λ (a : Acts). a .world) (on-1 t0 t1 t2 t3 o (ringAct op) refl));
+        is = sym (ap (λ (a : Acts). a .world) (on-1 t0 t1 t2 t3 o _ (ringAct op) refl refl));
         valid = (ok .1, ok .0, v .2, v .3);
       };
 }
@@ -127,7 +127,7 @@ goes t0 t1 t2 t3 v (Call.Vector false op) = record {
         t1 = t1;
         t2 = o .first;
         t3 = o .second;
-        is = sym (ap (λ (a : Acts). a .world) (on-2 t0 t1 t2 t3 o (vectorAct op) refl));
+        is = sym (ap (λ (a : Acts). a .world) (on-2 t0 t1 t2 t3 o _ (vectorAct op) refl refl));
         valid = (v .0, v .1, ok .0, ok .1);
       };
 }
@@ -141,7 +141,7 @@ goes t0 t1 t2 t3 v (Call.Vector true op) = record {
         t1 = t1;
         t2 = o .second;
         t3 = o .first;
-        is = sym (ap (λ (a : Acts). a .world) (on-3 t0 t1 t2 t3 o (vectorAct op) refl));
+        is = sym (ap (λ (a : Acts). a .world) (on-3 t0 t1 t2 t3 o _ (vectorAct op) refl refl));
         valid = (v .0, v .1, ok .1, ok .0);
       };
 }

@@ -1,5 +1,5 @@
 -- What an operation does to its container and the other, and what a call then does to the four: each is the table's own.
-use mathlib.Core.Path.{_≡_, sym, ap, _∙_}
+use mathlib.Core.Path.{_≡_, sym, ap, ap₂, _∙_}
 use mathlib.Core.Bool.{Bool, true, false}
 use mathlib.Core.List.{List, [], _∷_}
 use Prim.Native.Nat.{ℕ}
@@ -26,34 +26,50 @@ use Rattle.tray_lines.specs.declared.acts.RingDid.{RingDid}
 use Rattle.tray_lines.specs.declared.acts.VectorDid.{VectorDid}
 use Rattle.tray_lines.specs.declared.acts.Trays.{Trays}
 use Rattle.tray_lines.specs.declared.acts.Answer.{Answer}
-use Rattle.tray_lines.specs.Acts.{Act, one, two, ringAct, vectorAct, beside, actDoes, eventAt, reports, Acts, actsAs, acts, free, begun}
-use Rattle.tray_lines.specs.Seen.{ringHere, vectorHere, world, ringsSeen, vectorsSeen, oneRing, oneVector, twoRings, twoVectors, ringAnswer, vectorAnswer}
+use Rattle.tray_lines.specs.Acts.{Act, one, two, ringAct, vectorAct, beside, actDoes, eventAt, actSlot, reports, Acts, actsAs, acts, free, begun}
+use Rattle.tray_lines.specs.Seen.{ringHere, vectorHere, world, ringsSeen, vectorsSeen, RingDoes, VectorDoes, oneRing, oneVector, twoRings, twoVectors, ringAnswer, vectorAnswer}
 
 -- an operation on one container: `op` is known to be `is`
 pub ring-one : (op is : RingOp) (call : table.Call) (me : HeldRing) (a : ringAnswers.Answer) (s : List ℕ) (other : HeldRing) (d : RingDid)
     → op ≡ is → ringAct is ≡ one call → rings.Meets call (me .ring) (me .slots) a s → d ≡ oneRing a s other
-    → ringsSeen d ≡ actDoes ring (ringAct op) (ringHere me .tray) (ringHere other .tray)
+    → RingDoes op me other d
 ring-one op is call me a s other d eo ec ea ed =
-    ap ringsSeen ed ∙ ap (λ o. beside o (ringHere other .tray)) (ea .row) ∙ sym (ap (λ (x : Act). actDoes ring x (ringHere me .tray) (ringHere other .tray)) (ap ringAct eo ∙ ec))
+    let act : ringAct op ≡ one call = ap ringAct eo ∙ ec in
+    record {
+      row = ap ringsSeen ed ∙ ap (λ o. beside o (ringHere other .tray)) (ea .row) ∙ sym (ap (λ (x : Act). actDoes ring x (ringHere me .tray) (ringHere other .tray)) act);
+      slot = ap (λ (d : RingDid). d .slot) ed ∙ ea .slot ∙ sym (ap (λ (x : Act). actSlot ring x (ringHere me .tray)) act);
+    }
 
 pub vector-one : (op is : VectorOp) (call : table.Call) (me : HeldVector) (a : vectorAnswers.Answer) (s : List ℕ) (other : HeldVector) (d : VectorDid)
     → op ≡ is → vectorAct is ≡ one call → vectors.Meets call (me .vector) (me .slots) a s → d ≡ oneVector a s other
-    → vectorsSeen d ≡ actDoes vector (vectorAct op) (vectorHere me .tray) (vectorHere other .tray)
+    → VectorDoes op me other d
 vector-one op is call me a s other d eo ec ea ed =
-    ap vectorsSeen ed ∙ ap (λ o. beside o (vectorHere other .tray)) (ea .row) ∙ sym (ap (λ (x : Act). actDoes vector x (vectorHere me .tray) (vectorHere other .tray)) (ap vectorAct eo ∙ ec))
+    let act : vectorAct op ≡ one call = ap vectorAct eo ∙ ec in
+    record {
+      row = ap vectorsSeen ed ∙ ap (λ o. beside o (vectorHere other .tray)) (ea .row) ∙ sym (ap (λ (x : Act). actDoes vector x (vectorHere me .tray) (vectorHere other .tray)) act);
+      slot = ap (λ (d : VectorDid). d .slot) ed ∙ ea .slot ∙ sym (ap (λ (x : Act). actSlot vector x (vectorHere me .tray)) act);
+    }
 
 -- and one on two
 pub ring-two : (op is : RingOp) (call : table.Call2) (me other : HeldRing) (a : ringPair.Both) (s s2 : List ℕ) (d : RingDid)
     → op ≡ is → ringAct is ≡ two call → ringPairs.Meets call (me .ring) (me .slots) (other .ring) (other .slots) a s s2 → d ≡ twoRings a s s2
-    → ringsSeen d ≡ actDoes ring (ringAct op) (ringHere me .tray) (ringHere other .tray)
+    → RingDoes op me other d
 ring-two op is call me other a s s2 d eo ec ea ed =
-    ap ringsSeen ed ∙ ea .row ∙ sym (ap (λ (x : Act). actDoes ring x (ringHere me .tray) (ringHere other .tray)) (ap ringAct eo ∙ ec))
+    let act : ringAct op ≡ two call = ap ringAct eo ∙ ec in
+    record {
+      row = ap ringsSeen ed ∙ ea .row ∙ sym (ap (λ (x : Act). actDoes ring x (ringHere me .tray) (ringHere other .tray)) act);
+      slot = ap (λ (d : RingDid). d .slot) ed ∙ ea .slot ∙ sym (ap (λ (x : Act). actSlot ring x (ringHere me .tray)) act);
+    }
 
 pub vector-two : (op is : VectorOp) (call : table.Call2) (me other : HeldVector) (a : vectorPair.Both) (s s2 : List ℕ) (d : VectorDid)
     → op ≡ is → vectorAct is ≡ two call → vectorPairs.Meets call (me .vector) (me .slots) (other .vector) (other .slots) a s s2 → d ≡ twoVectors a s s2
-    → vectorsSeen d ≡ actDoes vector (vectorAct op) (vectorHere me .tray) (vectorHere other .tray)
+    → VectorDoes op me other d
 vector-two op is call me other a s s2 d eo ec ea ed =
-    ap vectorsSeen ed ∙ ea .row ∙ sym (ap (λ (x : Act). actDoes vector x (vectorHere me .tray) (vectorHere other .tray)) (ap vectorAct eo ∙ ec))
+    let act : vectorAct op ≡ two call = ap vectorAct eo ∙ ec in
+    record {
+      row = ap vectorsSeen ed ∙ ea .row ∙ sym (ap (λ (x : Act). actDoes vector x (vectorHere me .tray) (vectorHere other .tray)) act);
+      slot = ap (λ (d : VectorDid). d .slot) ed ∙ ea .slot ∙ sym (ap (λ (x : Act). actSlot vector x (vectorHere me .tray)) act);
+    }
 
 -- two rings and two vectors
 abbrev pub four : (t0 t1 t2 t3 : Tray) → World
@@ -64,56 +80,56 @@ four t0 t1 t2 t3 =
     ∷ record { kind = vector; tray = t3 }
     ∷ []
 
-abbrev pub leaving : Kind → World → Outcome2 → Acts
-leaving k w o = record { world = w; answer = reports (o .number) (o .value) (o .moves) (record { kind = k; tray = o .first }) }
+abbrev pub leaving : Kind → World → Outcome2 → (slot : ℕ) → Acts
+leaving k w o slot = record { world = w; answer = reports (o .number) (o .value) (o .moves) slot (record { kind = k; tray = o .first }) }
 
 -- what is done to two of the four is the event on them, whichever two of a kind they are
-module _ (t0 t1 t2 t3 : Tray) (o : Outcome2) where
-  pub on-0 : (a : Act) → o ≡ actDoes ring a t0 t1
-      → leaving ring (four (o .first) (o .second) t2 t3) o ≡ actsAs (four t0 t1 t2 t3) (eventAt (four t0 t1 t2 t3) 0 1 a) 0
-  on-0 (one call) e = ap (λ (o : Outcome2). leaving ring (four (o .first) (o .second) t2 t3) o) e
-  on-0 (two call) e = ap (λ (o : Outcome2). leaving ring (four (o .first) (o .second) t2 t3) o) e
+module _ (t0 t1 t2 t3 : Tray) (o : Outcome2) (n : ℕ) where
+  pub on-0 : (a : Act) → o ≡ actDoes ring a t0 t1 → n ≡ actSlot ring a t0
+      → leaving ring (four (o .first) (o .second) t2 t3) o n ≡ actsAs (four t0 t1 t2 t3) (eventAt (four t0 t1 t2 t3) 0 1 a) 0 (actSlot ring a t0)
+  on-0 (one call) e s = ap₂ (λ (o : Outcome2) n. leaving ring (four (o .first) (o .second) t2 t3) o n) e s
+  on-0 (two call) e s = ap₂ (λ (o : Outcome2) n. leaving ring (four (o .first) (o .second) t2 t3) o n) e s
 
-  pub on-1 : (a : Act) → o ≡ actDoes ring a t1 t0
-      → leaving ring (four (o .second) (o .first) t2 t3) o ≡ actsAs (four t0 t1 t2 t3) (eventAt (four t0 t1 t2 t3) 1 0 a) 1
-  on-1 (one call) e = ap (λ (o : Outcome2). leaving ring (four (o .second) (o .first) t2 t3) o) e
-  on-1 (two call) e = ap (λ (o : Outcome2). leaving ring (four (o .second) (o .first) t2 t3) o) e
+  pub on-1 : (a : Act) → o ≡ actDoes ring a t1 t0 → n ≡ actSlot ring a t1
+      → leaving ring (four (o .second) (o .first) t2 t3) o n ≡ actsAs (four t0 t1 t2 t3) (eventAt (four t0 t1 t2 t3) 1 0 a) 1 (actSlot ring a t1)
+  on-1 (one call) e s = ap₂ (λ (o : Outcome2) n. leaving ring (four (o .second) (o .first) t2 t3) o n) e s
+  on-1 (two call) e s = ap₂ (λ (o : Outcome2) n. leaving ring (four (o .second) (o .first) t2 t3) o n) e s
 
-  pub on-2 : (a : Act) → o ≡ actDoes vector a t2 t3
-      → leaving vector (four t0 t1 (o .first) (o .second)) o ≡ actsAs (four t0 t1 t2 t3) (eventAt (four t0 t1 t2 t3) 2 3 a) 2
-  on-2 (one call) e = ap (λ (o : Outcome2). leaving vector (four t0 t1 (o .first) (o .second)) o) e
-  on-2 (two call) e = ap (λ (o : Outcome2). leaving vector (four t0 t1 (o .first) (o .second)) o) e
+  pub on-2 : (a : Act) → o ≡ actDoes vector a t2 t3 → n ≡ actSlot vector a t2
+      → leaving vector (four t0 t1 (o .first) (o .second)) o n ≡ actsAs (four t0 t1 t2 t3) (eventAt (four t0 t1 t2 t3) 2 3 a) 2 (actSlot vector a t2)
+  on-2 (one call) e s = ap₂ (λ (o : Outcome2) n. leaving vector (four t0 t1 (o .first) (o .second)) o n) e s
+  on-2 (two call) e s = ap₂ (λ (o : Outcome2) n. leaving vector (four t0 t1 (o .first) (o .second)) o n) e s
 
-  pub on-3 : (a : Act) → o ≡ actDoes vector a t3 t2
-      → leaving vector (four t0 t1 (o .second) (o .first)) o ≡ actsAs (four t0 t1 t2 t3) (eventAt (four t0 t1 t2 t3) 3 2 a) 3
-  on-3 (one call) e = ap (λ (o : Outcome2). leaving vector (four t0 t1 (o .second) (o .first)) o) e
-  on-3 (two call) e = ap (λ (o : Outcome2). leaving vector (four t0 t1 (o .second) (o .first)) o) e
+  pub on-3 : (a : Act) → o ≡ actDoes vector a t3 t2 → n ≡ actSlot vector a t3
+      → leaving vector (four t0 t1 (o .second) (o .first)) o n ≡ actsAs (four t0 t1 t2 t3) (eventAt (four t0 t1 t2 t3) 3 2 a) 3 (actSlot vector a t3)
+  on-3 (one call) e s = ap₂ (λ (o : Outcome2) n. leaving vector (four t0 t1 (o .second) (o .first)) o n) e s
+  on-3 (two call) e s = ap₂ (λ (o : Outcome2) n. leaving vector (four t0 t1 (o .second) (o .first)) o n) e s
 
 -- the containers and the answer that the code has once the operation is done
 module _ (t : Trays) where
   pub ring-second : (op : RingOp) (second : Bool) (d : RingDid) (x : Answer) → second ≡ true
-      → ringsSeen d ≡ actDoes ring (ringAct op) (ringHere (t .ring1) .tray) (ringHere (t .ring0) .tray) → x ≡ ringAnswer d
+      → RingDoes op (t .ring1) (t .ring0) d → x ≡ ringAnswer d
       → _≡_ {A = Acts} (record { world = ringHere (d .other) ∷ ringHere (d .me) ∷ vectorHere (t .vector2) ∷ vectorHere (t .vector3) ∷ []; answer = x }) (acts (world t) (Call.Ring second op))
   unfolding acts
-  ring-second op second d x es ed ex = rw (es, ex) (on-1 _ _ _ _ (ringsSeen d) (ringAct op) ed)
+  ring-second op second d x es ed ex = rw (es, ex) (on-1 _ _ _ _ (ringsSeen d) (d .slot) (ringAct op) (ed .row) (ed .slot))
 
   pub ring-first : (op : RingOp) (second : Bool) (d : RingDid) (x : Answer) → second ≡ false
-      → ringsSeen d ≡ actDoes ring (ringAct op) (ringHere (t .ring0) .tray) (ringHere (t .ring1) .tray) → x ≡ ringAnswer d
+      → RingDoes op (t .ring0) (t .ring1) d → x ≡ ringAnswer d
       → _≡_ {A = Acts} (record { world = ringHere (d .me) ∷ ringHere (d .other) ∷ vectorHere (t .vector2) ∷ vectorHere (t .vector3) ∷ []; answer = x }) (acts (world t) (Call.Ring second op))
   unfolding acts
-  ring-first op second d x es ed ex = rw (es, ex) (on-0 _ _ _ _ (ringsSeen d) (ringAct op) ed)
+  ring-first op second d x es ed ex = rw (es, ex) (on-0 _ _ _ _ (ringsSeen d) (d .slot) (ringAct op) (ed .row) (ed .slot))
 
   pub vector-second : (op : VectorOp) (second : Bool) (d : VectorDid) (x : Answer) → second ≡ true
-      → vectorsSeen d ≡ actDoes vector (vectorAct op) (vectorHere (t .vector3) .tray) (vectorHere (t .vector2) .tray) → x ≡ vectorAnswer d
+      → VectorDoes op (t .vector3) (t .vector2) d → x ≡ vectorAnswer d
       → _≡_ {A = Acts} (record { world = ringHere (t .ring0) ∷ ringHere (t .ring1) ∷ vectorHere (d .other) ∷ vectorHere (d .me) ∷ []; answer = x }) (acts (world t) (Call.Vector second op))
   unfolding acts
-  vector-second op second d x es ed ex = rw (es, ex) (on-3 _ _ _ _ (vectorsSeen d) (vectorAct op) ed)
+  vector-second op second d x es ed ex = rw (es, ex) (on-3 _ _ _ _ (vectorsSeen d) (d .slot) (vectorAct op) (ed .row) (ed .slot))
 
   pub vector-first : (op : VectorOp) (second : Bool) (d : VectorDid) (x : Answer) → second ≡ false
-      → vectorsSeen d ≡ actDoes vector (vectorAct op) (vectorHere (t .vector2) .tray) (vectorHere (t .vector3) .tray) → x ≡ vectorAnswer d
+      → VectorDoes op (t .vector2) (t .vector3) d → x ≡ vectorAnswer d
       → _≡_ {A = Acts} (record { world = ringHere (t .ring0) ∷ ringHere (t .ring1) ∷ vectorHere (d .me) ∷ vectorHere (d .other) ∷ []; answer = x }) (acts (world t) (Call.Vector second op))
   unfolding acts
-  vector-first op second d x es ed ex = rw (es, ex) (on-2 _ _ _ _ (vectorsSeen d) (vectorAct op) ed)
+  vector-first op second d x es ed ex = rw (es, ex) (on-2 _ _ _ _ (vectorsSeen d) (d .slot) (vectorAct op) (ed .row) (ed .slot))
 
 -- the four makings
 pub four-made : (r0 r1 : HeldRing) (v2 v3 : HeldVector)

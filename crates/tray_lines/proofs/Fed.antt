@@ -40,15 +40,15 @@ kept-whole w l n t le e = e ∙ ap (tells w) (sym (take-all n l le))
 
 -- at the end of the input
 pub none-begun : (s : State) → s .count ≡ 0
-    → _≡_ {A = Ends} (record { world = Seen.world (s .trays); text = replicate 23 0; count = 0 }) (endsInto (ends keeping (midway s)))
+    → _≡_ {A = Ends} (record { world = Seen.world (s .trays); text = replicate 27 0; count = 0 }) (endsInto (ends keeping (midway s)))
 unfolding put
 none-begun s e = rw (eq-eqb (s .count) 0 e)
 
 pub some-begun : (s : State) (t : Told) → (s .count ≡ 0 → ⊥) → toldSeen t ≡ tells (Seen.world (s .trays)) (take (s .count) (s .line))
-    → _≡_ {A = Ends} (record { world = Seen.world (t .trays); text = t .text; count = 23 }) (endsInto (ends keeping (midway s)))
+    → _≡_ {A = Ends} (record { world = Seen.world (t .trays); text = t .text; count = 27 }) (endsInto (ends keeping (midway s)))
 some-begun s t ne et =
-    let long : length (t .text) ≡ 23 = ap (λ (x : Tells). length (x .text)) et ∙ length-tells _ _ in
-    let filled : put (replicate 23 0) 0 (t .text) ≡ t .text = all-of (t .text) (replicate 23 0) long in
+    let long : length (t .text) ≡ 27 = ap (λ (x : Tells). length (x .text)) et ∙ length-tells _ _ in
+    let filled : put (replicate 27 0) 0 (t .text) ≡ t .text = all-of (t .text) (replicate 27 0) long in
     rw (ne-eqb (s .count) 0 ne)
     (rw (← et)
     (ap (λ n. record { world = Seen.world (t .trays); text = t .text; count = n }) (sym long)
@@ -72,9 +72,9 @@ lay-end text out all at i is le = sym (ap (put out (at + i)) (drop-of-length-le 
 -- one byte: an LF, or another
 pub step-line : (s next : State) (b at : ℕ) (out laid : List ℕ) (t : Told) → b ≡ 10
     → toldSeen t ≡ tells (Seen.world (s .trays)) (take (s .count) (s .line)) → laid ≡ put out at (t .text) → midway next ≡ fresh keeping (Seen.world (t .trays))
-    → _≡_ {A = Puts} (record { state = midway next; at = at + 23; out = laid }) (puts (takes keeping (midway s) b) out at)
+    → _≡_ {A = Puts} (record { state = midway next; at = at + 27; out = laid }) (puts (takes keeping (midway s) b) out at)
 step-line s next b at out laid t eb et el en =
-    let long : length (t .text) ≡ 23 = ap (λ (x : Tells). length (x .text)) et ∙ length-tells _ _ in
+    let long : length (t .text) ≡ 27 = ap (λ (x : Tells). length (x .text)) et ∙ length-tells _ _ in
     rw (eb, ← et, el, en) (ap (λ n. record { state = fresh keeping (Seen.world (t .trays)); at = at + n; out = put out at (t .text) }) (sym long))
 
 pub step-byte : (s next : State) (b at : ℕ) (out : List ℕ) → (b ≡ 10 → ⊥) → midway next ≡ takes keeping (midway s) b .state
@@ -86,32 +86,32 @@ step-byte s next b at out ne en =
     let same : out ≡ put out at (takes keeping (midway s) b .out) = rw quiet in
     cc (en, long, same)
 
--- an answer takes no more than 23 bytes, and so many answers no more than that for each byte fed; they fit where there is room for the bytes
-few : (s : Midway Kept) (b : ℕ) (t : Bool) → eqb b lf ≡ t → length (takes keeping s b .out) ≤ 23
+-- an answer takes no more than 27 bytes, and so many answers no more than that for each byte fed; they fit where there is room for the bytes
+few : (s : Midway Kept) (b : ℕ) (t : Bool) → eqb b lf ≡ t → length (takes keeping s b .out) ≤ 27
 few s b true e = rw e (omega (arith, length-tells (s .world) (take (s .line .count) (s .line .bytes))))
 few s b false e = rw e (omega arith)
 
-feeds-few : (s : Midway Kept) (input : List ℕ) → length (feeds keeping s input .out) ≤ 23 * length input
+feeds-few : (s : Midway Kept) (input : List ℕ) → length (feeds keeping s input .out) ≤ 27 * length input
 unfolding feeds
 feeds-few s [] = omega arith
 feeds-few s (b ∷ input) = simp length-append (omega (arith, few s b _ refl, feeds-few (takes keeping s b .state) input))
 
-room-fits : (input out : List ℕ) (t : Bool) → ltb (length out / 23) (length input) ≡ t → 23 * room input out ≤ length out
+room-fits : (input out : List ℕ) (t : Bool) → ltb (length out / 27) (length input) ≡ t → 27 * room input out ≤ length out
 room-fits input out true e = rw e (omega arith)
-room-fits input out false e = rw e (omega (arith, ltb-false (length out / 23) (length input) e))
+room-fits input out false e = rw e (omega (arith, ltb-false (length out / 27) (length input) e))
 
 pub feeds-fit : (s : Midway Kept) (input out : List ℕ) → length (feeds keeping s (take (room input out) input) .out) ≤ length out
 feeds-fit s input out =
     omega (arith, feeds-few s (take (room input out) input), length-take (room input out) input, room-fits input out _ refl)
 
-pub ends-few : (s : Midway Kept) → length (ends keeping s .text) ≤ 23
+pub ends-few : (s : Midway Kept) → length (ends keeping s .text) ≤ 27
 ends-few s = go (eqb (s .line .count) 0) refl
   where
-    go : (t : Bool) → eqb (s .line .count) 0 ≡ t → length (ends keeping s .text) ≤ 23
+    go : (t : Bool) → eqb (s .line .count) 0 ≡ t → length (ends keeping s .text) ≤ 27
     go true e = rw e (omega arith)
     go false e = rw e (omega (arith, length-tells (s .world) (take (s .line .count) (s .line .bytes))))
 
-pub step-at : (s : Midway Kept) (b at i : ℕ) (out laid : List ℕ) (p : Step) → stepSeen p laid ≡ puts (takes keeping s b) out at → at ≤ 23 * i → p .at ≤ 23 * (i + 1)
+pub step-at : (s : Midway Kept) (b at i : ℕ) (out laid : List ℕ) (p : Step) → stepSeen p laid ≡ puts (takes keeping s b) out at → at ≤ 27 * i → p .at ≤ 27 * (i + 1)
 step-at s b at i out laid p e le = let is : p .at ≡ at + length (takes keeping s b .out) = ap (λ (x : Puts). x .at) e in omega (arith, few s b _ refl)
 
 -- two runs of answers that meet are one
@@ -152,22 +152,22 @@ feed-end s first input out given at i is low high =
     cc (es, ea, eo, ei)
 
 -- as many bytes as there is room for
-pub feed-part : (s : Midway Kept) (input out : List ℕ) (r : Fills) → length out / 23 < length input → r ≡ fillsAll s (take (length out / 23 - 0) (drop 0 input)) out → r ≡ fills s input out
+pub feed-part : (s : Midway Kept) (input out : List ℕ) (r : Fills) → length out / 27 < length input → r ≡ fillsAll s (take (length out / 27 - 0) (drop 0 input)) out → r ≡ fills s input out
 unfolding fills
 feed-part s input out r lt e =
-    let same : length out / 23 - 0 ≡ length out / 23 = omega arith in
-    rw (lt-ltb (length out / 23) (length input) lt) (e ∙ ap (λ k. fillsAll s (take k input) out) same)
+    let same : length out / 27 - 0 ≡ length out / 27 = omega arith in
+    rw (lt-ltb (length out / 27) (length input) lt) (e ∙ ap (λ k. fillsAll s (take k input) out) same)
 
-pub feed-whole : (s : Midway Kept) (input out : List ℕ) (r : Fills) → length input ≤ length out / 23 → r ≡ fillsAll s input out → r ≡ fills s input out
+pub feed-whole : (s : Midway Kept) (input out : List ℕ) (r : Fills) → length input ≤ length out / 27 → r ≡ fillsAll s input out → r ≡ fills s input out
 unfolding fills
-feed-whole s input out r le e = rw (le-ltb (length out / 23) (length input) le) (e ∙ ap (λ l. fillsAll s l out) (sym (take-length input)))
+feed-whole s input out r le e = rw (le-ltb (length out / 27) (length input) le) (e ∙ ap (λ l. fillsAll s l out) (sym (take-length input)))
 
 -- with room for all answers every byte is taken, and the answers are in the text
-pub fed-all : (s : Midway Kept) (input out laid : List ℕ) (f : Fed) → 23 * length input ≤ length out → fedSeen f laid ≡ fills s input out → midway (f .state) ≡ feeds keeping s input .state
+pub fed-all : (s : Midway Kept) (input out laid : List ℕ) (f : Fed) → 27 * length input ≤ length out → fedSeen f laid ≡ fills s input out → midway (f .state) ≡ feeds keeping s input .state
 unfolding fills
 fed-all s input out laid f fits e =
-    let low : length input ≤ length out / 23 = omega arith in
-    let all : take (room input out) input ≡ input = rw (le-ltb (length out / 23) (length input) low) (take-length input) in
+    let low : length input ≤ length out / 27 = omega arith in
+    let all : take (room input out) input ≡ input = rw (le-ltb (length out / 27) (length input) low) (take-length input) in
     ap (λ (x : Fills). x .state) e ∙ ap (λ l. feeds keeping s l .state) all
 
 pub counted : (s : Midway Kept) (input out laid : List ℕ) (f : Fed) → fedSeen f laid ≡ fills s input out → f .count ≤ length laid
@@ -180,5 +180,5 @@ counted s input out laid f e =
 pub end-counted : (s : Midway Kept) (f : Finish) → endedSeen f ≡ endsInto (ends keeping s) → f .count ≤ length (f .text)
 end-counted s f e =
     let n : f .count ≡ length (ends keeping s .text) = ap (λ (x : Ends). x .count) e in
-    let long : length (f .text) ≡ 23 = ap (λ (x : Ends). length (x .text)) e ∙ length-put (replicate 23 0) 0 _ in
+    let long : length (f .text) ≡ 27 = ap (λ (x : Ends). length (x .text)) e ∙ length-put (replicate 27 0) 0 _ in
     omega (arith, n, long, ends-few s)

@@ -1,6 +1,6 @@
 -- One answer: any two results that meet a public function's generated contract on the same arguments are the same, and so are the texts that they
 -- come with.
-use mathlib.Core.Path.{_≡_, refl, sym, ap, _∙_}
+use mathlib.Core.Path.{_≡_, refl, sym, ap, ap₂, _∙_}
 use contract.Lifetimes.{Lfts}
 use denote.Ref.{now}
 use Rattle.slots.proofs.Twice.{Twice}
@@ -11,7 +11,7 @@ use Rattle.tray_lines.specs.declared.acts.HeldRing.{HeldRing}
 use Rattle.tray_lines.specs.declared.acts.HeldVector.{HeldVector}
 use Rattle.tray_lines.specs.declared.acts.Trays.{Trays}
 use Rattle.tray_lines.specs.declared.feeds.State.{State}
-use Rattle.tray_lines.specs.Seen.{world, ringsSeen, vectorsSeen, actedSeen}
+use Rattle.tray_lines.specs.Seen.{world, actedSeen}
 use Rattle.tray_lines.specs.Acts.{Acts}
 use Rattle.tray_lines.specs.Answers.{Tells, toldSeen}
 use Rattle.tray_lines.specs.Feeds.{Midway, Kept, midway, Ends, endedSeen, Fills}
@@ -43,15 +43,13 @@ module _ (κs : Lfts 0) where
 
   pub on-ring-once : Twice acts·fn.on_ring.ended κs (acts·fn.on_ring.Reads.Learnt κs) (λ r e r′ e′. r ≡ r′)
   on-ring-once a r r′ e e′ p q =
-      once ringsSeen
-      (λ (o : Outcome2). record { number = o .number; value = o .value; moves = o .moves; me = ringOf (o .first); other = ringOf (o .second) })
-      (λ d. refl) _ r r′ p q
+      ap₂ (λ (o : Outcome2) n. record { number = o .number; value = o .value; moves = o .moves; slot = n; me = ringOf (o .first); other = ringOf (o .second) })
+      (p .row ∙ sym (q .row)) (p .slot ∙ sym (q .slot))
 
   pub on-vector-once : Twice acts·fn.on_vector.ended κs (acts·fn.on_vector.Reads.Learnt κs) (λ r e r′ e′. r ≡ r′)
   on-vector-once a r r′ e e′ p q =
-      once vectorsSeen
-      (λ (o : Outcome2). record { number = o .number; value = o .value; moves = o .moves; me = vectorOf (o .first); other = vectorOf (o .second) })
-      (λ d. refl) _ r r′ p q
+      ap₂ (λ (o : Outcome2) n. record { number = o .number; value = o .value; moves = o .moves; slot = n; me = vectorOf (o .first); other = vectorOf (o .second) })
+      (p .row ∙ sym (q .row)) (p .slot ∙ sym (q .slot))
 
   pub act-once : Twice acts·fn.act.ended κs (acts·fn.act.Reads.Learnt κs) (λ r e r′ e′. r ≡ r′)
   act-once a r r′ e e′ p q = once actedSeen (λ (x : Acts). record { trays = traysOf (x .world); answer = x .answer }) (λ d. refl) _ r r′ p q

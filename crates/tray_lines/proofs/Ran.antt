@@ -133,7 +133,7 @@ module _ (s : State) (input : List ℕ) (there : Stands s input) where
     last-answer =
         let end : Tells = ends keeping (feeds keeping (fresh keeping begun) input .state) in
         ap (λ (x : Ends). take (x .count) (x .text)) finish
-        ∙ put-read (replicate 23 0) (end .text) (ends-few (feeds keeping (fresh keeping begun) input .state))
+        ∙ put-read (replicate 27 0) (end .text) (ends-few (feeds keeping (fresh keeping begun) input .state))
 
     pub world-at-end : world (r .trays) ≡ after begun (linesOf [] input)
     world-at-end = ap (λ (x : Ends). x .world) finish ∙ run-answers begun input .1

@@ -9,6 +9,7 @@ use Rattle.table.specs.Calls as table
 use Rattle.table.specs.Calls.{push, pushFront, pop, popFront, insert, remove, swapRemove, write, truncate, resize, clear, look, read}
 use Rattle.table.specs.Calls.{append, splitOff, has, has2, new}
 use Rattle.table.specs.Does.{Outcome, Outcome2, does, does2, made}
+use Rattle.table.specs.Reported.{noSlot, reported}
 use Rattle.table.specs.World.{Container, World, at, Event, arrived, called, calledTwo, make, on, onTwo, step, run}
 use Rattle.tray_lines.specs.declared.lines.RingOp.{RingOp}
 use Rattle.tray_lines.specs.declared.lines.VectorOp.{VectorOp}
@@ -104,25 +105,31 @@ eventAt w i j (two call) = onTwo i j call (does2 (at w i .kind) (at w j .kind) c
 abbrev pub event : World → Call → Event
 event w c = eventAt w (named c) (other c) (actOf c)
 
--- number, value and moves, with the head and the length of the container afterwards; a vector's head is 0
-abbrev pub reports : (number value moves : ℕ) → Container → Answer
-reports number value moves b = record { number = number; value = value; moves = moves; head = b .tray .head; len = b .tray .len }
+-- the slot that is reported: a call on two has none to report
+abbrev pub actSlot : Kind → Act → Tray → ℕ
+actSlot k (one call) t = reported k call t
+actSlot k (two call) t = noSlot
 
-abbrev pub reported : Event → Container → Answer
-reported (arrived k a slots o) b = reports (o .number) (o .value) (o .moves) b
-reported (called i p o) b = reports (o .number) (o .value) (o .moves) b
-reported (calledTwo i j p o) b = reports (o .number) (o .value) (o .moves) b
+-- number, value, moves and slot, with the head and the length of the container afterwards; a vector's head is 0
+abbrev pub reports : (number value moves slot : ℕ) → Container → Answer
+reports number value moves slot b =
+    record { number = number; value = value; moves = moves; slot = slot; head = b .tray .head; len = b .tray .len }
+
+abbrev pub answerOf : Event → (slot : ℕ) → Container → Answer
+answerOf (arrived k a slots o) slot b = reports (o .number) (o .value) (o .moves) slot b
+answerOf (called i p o) slot b = reports (o .number) (o .value) (o .moves) slot b
+answerOf (calledTwo i j p o) slot b = reports (o .number) (o .value) (o .moves) slot b
 
 -- what a call comes to: the world afterwards, and what is answered
 pub record Acts : Type 0 where
   pub world : World
   pub answer : Answer
 
-abbrev pub actsAs : World → Event → (named : ℕ) → Acts
-actsAs w e i = record { world = step w e; answer = reported e (at (step w e) i) }
+abbrev pub actsAs : World → Event → (named slot : ℕ) → Acts
+actsAs w e i slot = record { world = step w e; answer = answerOf e slot (at (step w e) i) }
 
 unfoldable pub acts : World → Call → Acts
-acts w c = actsAs w (event w c) (named c)
+acts w c = actsAs w (event w c) (named c) (actSlot (at w (named c) .kind) (actOf c) (at w (named c) .tray))
 
 -- the four makings: capacity 4 each, all slots 0 and empty
 abbrev pub free : List ℕ

@@ -85,14 +85,14 @@ ends r s = cond (r .empty (s .line)) (record { world = s .world; text = [] }) (a
 abbrev pub midway : State → Midway Kept
 midway s = record { world = Seen.world (s .trays); line = record { bytes = s .line; count = s .count } }
 
--- the end: an answer, or none, at the start of a text of 23 bytes that was 0
+-- the end: an answer, or none, at the start of a text of 27 bytes that was 0
 pub record Ends : Type 0 where
   pub world : World
   pub text : List ℕ
   pub count : ℕ
 
 abbrev pub endsInto : Tells → Ends
-endsInto t = record { world = t .world; text = put (replicate 23 0) 0 (t .text); count = length (t .text) }
+endsInto t = record { world = t .world; text = put (replicate 27 0) 0 (t .text); count = length (t .text) }
 
 abbrev pub endedSeen : Finish → Ends
 endedSeen e = record { world = Seen.world (e .trays); text = e .text; count = e .count }
@@ -112,9 +112,9 @@ fillsAll s input out = record {
   out = put out 0 (feeds keeping s input .out);
 }
 
--- as many bytes are taken as the text has room for, 23 for each
+-- as many bytes are taken as the text has room for, 27 for each
 abbrev pub room : (input out : List ℕ) → ℕ
-room input out = cond (ltb (length out / 23) (length input)) (length out / 23) (length input)
+room input out = cond (ltb (length out / 27) (length input)) (length out / 27) (length input)
 
 unfoldable pub fills : Midway Kept → (input out : List ℕ) → Fills
 fills s input out = fillsAll s (take (room input out) input) out

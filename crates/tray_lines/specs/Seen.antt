@@ -1,5 +1,6 @@
 -- How the code's values are read: four containers with their slots are the table's world, and what was done to two of them is an outcome.
 use Prim.Native.Nat.{ℕ}
+use mathlib.Core.Path.{_≡_}
 use mathlib.Core.List.{List, [], _∷_}
 use Rattle.slots.specs.Layout.{ring, vector}
 use Rattle.table.specs.Tray.{nowhere}
@@ -11,6 +12,8 @@ use Rattle.ring.specs.declared.Answer as ringAnswers
 use Rattle.vector.specs.declared.Answer as vectorAnswers
 use Rattle.pairs.specs.declared.rings.Both as ringPair
 use Rattle.pairs.specs.declared.vectors.Both as vectorPair
+use Rattle.tray_lines.specs.declared.lines.RingOp.{RingOp}
+use Rattle.tray_lines.specs.declared.lines.VectorOp.{VectorOp}
 use Rattle.tray_lines.specs.declared.acts.HeldRing.{HeldRing}
 use Rattle.tray_lines.specs.declared.acts.HeldVector.{HeldVector}
 use Rattle.tray_lines.specs.declared.acts.RingDid.{RingDid}
@@ -18,7 +21,7 @@ use Rattle.tray_lines.specs.declared.acts.VectorDid.{VectorDid}
 use Rattle.tray_lines.specs.declared.acts.Trays.{Trays}
 use Rattle.tray_lines.specs.declared.acts.Answer.{Answer}
 use Rattle.tray_lines.specs.declared.acts.Acted.{Acted}
-use Rattle.tray_lines.specs.Acts.{Acts}
+use Rattle.tray_lines.specs.Acts.{Acts, ringAct, vectorAct, actDoes, actSlot}
 
 abbrev pub ringHere : HeldRing → Container
 ringHere h = record { kind = ring; tray = rings.tray (h .ring) (h .slots) }
@@ -51,14 +54,23 @@ vectorsSeen d = record {
   cursor = nowhere;
 }
 
+-- The promise of an operation on a container, with the other of its kind: what was done, and the slot that it reports.
+pub record RingDoes (op : RingOp) (me other : HeldRing) (d : RingDid) : Type 0 where
+  pub row : ringsSeen d ≡ actDoes ring (ringAct op) (ringHere me .tray) (ringHere other .tray)
+  pub slot : d .slot ≡ actSlot ring (ringAct op) (ringHere me .tray)
+
+pub record VectorDoes (op : VectorOp) (me other : HeldVector) (d : VectorDid) : Type 0 where
+  pub row : vectorsSeen d ≡ actDoes vector (vectorAct op) (vectorHere me .tray) (vectorHere other .tray)
+  pub slot : d .slot ≡ actSlot vector (vectorAct op) (vectorHere me .tray)
+
 -- what the private functions `one_ring` and `one_vector` answer: the other container as it was
 abbrev pub oneRing : ringAnswers.Answer → (slots : List ℕ) → HeldRing → RingDid
 oneRing a slots other =
-    record { number = a .number; value = a .value; moves = a .moves; me = record { ring = a .ring; slots = slots }; other = other }
+    record { number = a .number; value = a .value; moves = a .moves; slot = a .slot; me = record { ring = a .ring; slots = slots }; other = other }
 
 abbrev pub oneVector : vectorAnswers.Answer → (slots : List ℕ) → HeldVector → VectorDid
 oneVector a slots other =
-    record { number = a .number; value = a .value; moves = a .moves; me = record { vector = a .vector; slots = slots }; other = other }
+    record { number = a .number; value = a .value; moves = a .moves; slot = a .slot; me = record { vector = a .vector; slots = slots }; other = other }
 
 -- what `two_rings` and `two_vectors` answer
 abbrev pub twoRings : ringPair.Both → (slots theirs : List ℕ) → RingDid
@@ -66,6 +78,7 @@ twoRings a slots theirs = record {
   number = a .number;
   value = a .value;
   moves = a .moves;
+  slot = a .slot;
   me = record { ring = a .first; slots = slots };
   other = record { ring = a .second; slots = theirs };
 }
@@ -75,16 +88,17 @@ twoVectors a slots theirs = record {
   number = a .number;
   value = a .value;
   moves = a .moves;
+  slot = a .slot;
   me = record { vector = a .first; slots = slots };
   other = record { vector = a .second; slots = theirs };
 }
 
 -- what `ring_answer` and `vector_answer` answer
 abbrev pub ringAnswer : RingDid → Answer
-ringAnswer d = record { number = d .number; value = d .value; moves = d .moves; head = d .me .ring .head; len = d .me .ring .len }
+ringAnswer d = record { number = d .number; value = d .value; moves = d .moves; slot = d .slot; head = d .me .ring .head; len = d .me .ring .len }
 
 abbrev pub vectorAnswer : VectorDid → Answer
-vectorAnswer d = record { number = d .number; value = d .value; moves = d .moves; head = 0; len = d .me .vector .len }
+vectorAnswer d = record { number = d .number; value = d .value; moves = d .moves; slot = d .slot; head = 0; len = d .me .vector .len }
 
 abbrev pub actedSeen : Acted → Acts
 actedSeen a = record { world = world (a .trays); answer = a .answer }

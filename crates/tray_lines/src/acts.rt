@@ -8,8 +8,8 @@ ghost use mathlib.Core.Path.{_≡_};
 ghost use Rattle.slots.specs.Layout.{ring, vector};
 ghost use Rattle.table.specs.Calls.{new};
 ghost use Rattle.table.specs.Does.{made};
-ghost use Rattle.tray_lines.specs.Seen.{ringHere, vectorHere, world, ringsSeen, vectorsSeen, oneRing, oneVector, twoRings, twoVectors, ringAnswer, vectorAnswer, actedSeen};
-ghost use Rattle.tray_lines.specs.Acts.{free, begun, ringAct, vectorAct, actDoes, acts};
+ghost use Rattle.tray_lines.specs.Seen.{ringHere, vectorHere, world, RingDoes, VectorDoes, oneRing, oneVector, twoRings, twoVectors, ringAnswer, vectorAnswer, actedSeen};
+ghost use Rattle.tray_lines.specs.Acts.{free, begun, acts};
 
 // A ring with its slots.
 pub struct HeldRing {
@@ -36,6 +36,7 @@ pub struct RingDid {
     pub number: u8,
     pub value: u32,
     pub moves: usize,
+    pub slot: usize,
     pub me: HeldRing,
     pub other: HeldRing,
 }
@@ -45,15 +46,17 @@ pub struct VectorDid {
     pub number: u8,
     pub value: u32,
     pub moves: usize,
+    pub slot: usize,
     pub me: HeldVector,
     pub other: HeldVector,
 }
 
-// What is answered, with the head and the length of the container afterwards.
+// What is answered, with the slot concerned, and the head and the length of the container afterwards.
 pub struct Answer {
     pub number: u8,
     pub value: u32,
     pub moves: usize,
+    pub slot: usize,
     pub head: usize,
     pub len: usize,
 }
@@ -102,6 +105,7 @@ fn one_ring(a: ring::Answer, slots: [u32; 4], other: HeldRing) -> RingDid
         number: a.number,
         value: a.value,
         moves: a.moves,
+        slot: a.slot,
         me: HeldRing { ring, slots },
         other,
     }
@@ -115,6 +119,7 @@ fn one_vector(a: vector::Answer, slots: [u32; 4], other: HeldVector) -> VectorDi
         number: a.number,
         value: a.value,
         moves: a.moves,
+        slot: a.slot,
         me: HeldVector { vector, slots },
         other,
     }
@@ -129,6 +134,7 @@ fn two_rings(a: pairs::rings::Both, slots: [u32; 4], theirs: [u32; 4]) -> RingDi
         number: a.number,
         value: a.value,
         moves: a.moves,
+        slot: a.slot,
         me: HeldRing { ring: first, slots },
         other: HeldRing {
             ring: second,
@@ -146,6 +152,7 @@ fn two_vectors(a: pairs::vectors::Both, slots: [u32; 4], theirs: [u32; 4]) -> Ve
         number: a.number,
         value: a.value,
         moves: a.moves,
+        slot: a.slot,
         me: HeldVector {
             vector: first,
             slots,
@@ -159,7 +166,7 @@ fn two_vectors(a: pairs::vectors::Both, slots: [u32; 4], theirs: [u32; 4]) -> Ve
 
 // An operation on a ring, with the other ring beside it.
 pub fn on_ring(op: RingOp, me: HeldRing, other: HeldRing) -> RingDid
-    ensures { λ r. ⌜ ringsSeen r ≡ actDoes ring (ringAct op) (ringHere me .tray) (ringHere other .tray) ⌝ }
+    ensures { λ r. ⌜ RingDoes op me other r ⌝ }
 {
     let r = me.ring;
     let t = other.ring;
@@ -184,7 +191,7 @@ pub fn on_ring(op: RingOp, me: HeldRing, other: HeldRing) -> RingDid
 
 // An operation on a vector, with the other vector beside it.
 pub fn on_vector(op: VectorOp, me: HeldVector, other: HeldVector) -> VectorDid
-    ensures { λ r. ⌜ vectorsSeen r ≡ actDoes vector (vectorAct op) (vectorHere me .tray) (vectorHere other .tray) ⌝ }
+    ensures { λ r. ⌜ VectorDoes op me other r ⌝ }
 {
     let v = me.vector;
     let t = other.vector;
@@ -217,6 +224,7 @@ fn ring_answer(d: RingDid) -> Answer
         number: d.number,
         value: d.value,
         moves: d.moves,
+        slot: d.slot,
         head: d.me.ring.head,
         len: d.me.ring.len,
     }
@@ -229,6 +237,7 @@ fn vector_answer(d: VectorDid) -> Answer
         number: d.number,
         value: d.value,
         moves: d.moves,
+        slot: d.slot,
         head: 0,
         len: d.me.vector.len,
     }

@@ -9,7 +9,7 @@ ghost use Rattle.tray_lines.specs.Answers.{bare, lineOf, tells, toldSeen
 // The containers after a line, and the line that is answered, with its LF.
 pub struct Told {
     pub trays: Trays,
-    pub text: [u8; 23],
+    pub text: [u8; 27],
 }
 
 fn bare(number: u8) -> Answer
@@ -19,22 +19,24 @@ fn bare(number: u8) -> Answer
         number,
         value: 0,
         moves: 0,
+        slot: slots::NO_SLOT,
         head: 0,
         len: 0,
     }
 }
 
-// Number, value, moves, head and length, and the line's end.
-fn line_of(a: Answer) -> [u8; 23]
+// Number, value, moves, head, length and slot, and the line's end.
+fn line_of(a: Answer) -> [u8; 27]
     ensures { λ r. ⌜ r ≡ lineOf a ⌝ }
 {
-    let mut text = [0u8; 23];
+    let mut text = [0u8; 27];
     digits::put_hex(&mut text, 0, 2, a.number as u64);
     digits::put_hex(&mut text, 2, 8, a.value as u64);
     digits::put_hex(&mut text, 10, 4, a.moves as u64);
     digits::put_hex(&mut text, 14, 4, a.head as u64);
     digits::put_hex(&mut text, 18, 4, a.len as u64);
-    text[22] = 10;
+    digits::put_hex(&mut text, 22, 4, a.slot as u64);
+    text[26] = 10;
     text
 }
 

@@ -32,7 +32,7 @@ pub struct Fed {
 // After the last byte: how many bytes of an answer stand at the start of the text.
 pub struct Finish {
     pub trays: Trays,
-    pub text: [u8; 23],
+    pub text: [u8; 27],
     pub count: usize,
 }
 
@@ -85,7 +85,7 @@ pub fn ended(s: State) -> Finish
     if n == 0 {
         return Finish {
             trays,
-            text: [0u8; 23],
+            text: [0u8; 27],
             count: 0,
         };
     }
@@ -95,28 +95,28 @@ pub fn ended(s: State) -> Finish
     Finish {
         trays: after,
         text,
-        count: 23,
+        count: 27,
     }
 }
 
 // An answer, from a place of the text on.
-fn lay(out: &mut [u8], at: usize, text: [u8; 23])
-    requires { ⌜ at + 23 ≤ length (now out) ⌝ }
+fn lay(out: &mut [u8], at: usize, text: [u8; 27])
+    requires { ⌜ at + 27 ≤ length (now out) ⌝ }
     ensures { λ _. ⌜ now (out .exit) ≡ put (now (out .entry)) at text ⌝ }
 {
     let mut i = 0;
-    while i < 23 {
+    while i < 27 {
         out[at + i] = text[i];
         i += 1;
     }
 }
 
 fn one(s: State, b: u8, out: &mut [u8], at: usize) -> Step
-    requires { ⌜ at + 23 ≤ length (now out) ⌝ }
+    requires { ⌜ at + 27 ≤ length (now out) ⌝ }
     ensures { λ r. ⌜ stepSeen r (now (out .exit)) ≡ puts (takes keeping (midway s) b) (now (out .entry)) at ⌝ }
 {
     if b == 10 {
-        let end = at + 23;
+        let end = at + 27;
         let trays = s.trays;
         let line = s.line;
         let t = answer_of(trays, &line, s.count);
@@ -135,7 +135,7 @@ fn one(s: State, b: u8, out: &mut [u8], at: usize) -> Step
 }
 
 fn feed_all(state: State, input: &[u8], out: &mut [u8]) -> Fed
-    requires { ⌜ 23 * length (now input) ≤ length (now out) ⌝ }
+    requires { ⌜ 27 * length (now input) ≤ length (now out) ⌝ }
     ensures { λ r. ⌜ fedSeen r (now (out .exit)) ≡ fillsAll (midway state) (now (input .entry)) (now (out .entry)) ⌝ }
 {
     let mut s = state;
@@ -154,11 +154,11 @@ fn feed_all(state: State, input: &[u8], out: &mut [u8]) -> Fed
     }
 }
 
-// As many bytes are taken as the text has room for, 23 for each.
+// As many bytes are taken as the text has room for, 27 for each.
 pub fn feed(state: State, input: &[u8], out: &mut [u8]) -> Fed
     ensures { λ r. ⌜ fedSeen r (now (out .exit)) ≡ fills (midway state) (now (input .entry)) (now (out .entry)) ⌝ }
 {
-    let most = out.len() / 23;
+    let most = out.len() / 27;
     if most < input.len() {
         return feed_all(state, &input[0..most], out);
     }

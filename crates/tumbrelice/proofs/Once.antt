@@ -12,7 +12,7 @@ use Rattle.table.specs.Tray.{Tray, Cursor}
 use Rattle.table.specs.Calls.{Call, Call2, Look}
 use Rattle.record.specs.declared.texts.Told.{Told}
 use Rattle.record.specs.Unquoted.{Unquoted}
-use Rattle.tumbrelice.specs.Heard.{valueIn, freeIn, movesIn, numberIn, Hears, HearsAt, Hears2, ringOf, vectorOf, cursorOf}
+use Rattle.tumbrelice.specs.Heard.{valueIn, slotIn, movesIn, numberIn, Hears, HearsAt, Hears2, ringOf, vectorOf, cursorOf}
 use Rattle.tumbrelice.specs.HeardText.{HearsRecord, heardTold}
 use Rattle.tumbrelice.proofs.rings as rings
 use Rattle.tumbrelice.proofs.vectors as vectors
@@ -21,34 +21,34 @@ use Rattle.tumbrelice.proofs.compare as compare
 use Rattle.tumbrelice.proofs.records as records
 use Rattle.tumbrelice.proofs.walks as walks
 
--- the three numbers of a word make it up, where its free bits are 0
-one-word : (w w′ : ℕ) → numberIn w ≡ numberIn w′ → valueIn w ≡ valueIn w′ → movesIn w ≡ movesIn w′ → freeIn w ≡ 0 → freeIn w′ ≡ 0 → w ≡ w′
-one-word w w′ number value moves free free′ = omega arith
+-- the four numbers of a word make it up
+one-word : (w w′ : ℕ) → numberIn w ≡ numberIn w′ → valueIn w ≡ valueIn w′ → movesIn w ≡ movesIn w′ → slotIn w ≡ slotIn w′ → w ≡ w′
+one-word w w′ number value moves slot = omega arith
 
 one : {k : Kind} {call : Call} {b : Tray} (w w′ : ℕ) (t t′ : Tray) → Hears k call b w t → Hears k call b w′ t′ → (w ≡ w′) × (t ≡ t′)
 one w w′ t t′ p q =
     let same = p .row ∙ sym (q .row) in
-    (one-word w w′ (ap (λ o. o .number) same) (ap (λ o. o .value) same) (ap (λ o. o .moves) same) (p .free) (q .free), ap (λ o. o .tray) same)
+    (one-word w w′ (ap (λ o. o .number) same) (ap (λ o. o .value) same) (ap (λ o. o .moves) same) (p .slot ∙ sym (q .slot)), ap (λ o. o .tray) same)
 
 one-at : {k : Kind} {s : Look} {t : Tray} (w w′ : ℕ) (u u′ : Cursor) → HearsAt k s t w u → HearsAt k s t w′ u′ → (w ≡ w′) × (u ≡ u′)
 one-at w w′ u u′ p q =
     let same = p .row ∙ sym (q .row) in
-    (one-word w w′ (ap (λ o. o .number) same) (ap (λ o. o .value) same) (ap (λ o. o .moves) same) (p .free) (q .free), ap (λ o. o .cursor) same)
+    (one-word w w′ (ap (λ o. o .number) same) (ap (λ o. o .value) same) (ap (λ o. o .moves) same) (p .slot ∙ sym (q .slot)), ap (λ o. o .cursor) same)
 
 one2 : {k k2 : Kind} {call : Call2} {b b2 : Tray} (w w′ : ℕ) (t t′ t2 t2′ : Tray) → Hears2 k k2 call b b2 w t t2 → Hears2 k k2 call b b2 w′ t′ t2′
     → (w ≡ w′) × (t ≡ t′) × (t2 ≡ t2′)
 one2 w w′ t t′ t2 t2′ p q =
     let same = p .row ∙ sym (q .row) in
-    (one-word w w′ (ap (λ o. o .number) same) (ap (λ o. o .value) same) (ap (λ o. o .moves) same) (p .free) (q .free), ap (λ o. o .first) same, ap (λ o. o .second) same)
+    (one-word w w′ (ap (λ o. o .number) same) (ap (λ o. o .value) same) (ap (λ o. o .moves) same) (p .slot ∙ sym (q .slot)), ap (λ o. o .first) same, ap (λ o. o .second) same)
 
 -- of the calls on a record
 one-record : {text : List ℕ} {b b2 : Tray} (w w′ : ℕ) (t t′ t2 t2′ : Tray) → HearsRecord text b b2 w t t2 → HearsRecord text b b2 w′ t′ t2′ → (w ≡ w′) × (t ≡ t′) × (t2 ≡ t2′)
 one-record w w′ t t′ t2 t2′ p q =
     let same = p .row ∙ sym (q .row) in
-    (one-word w w′ (ap (λ o. o .number) same) (ap (λ o. o .value) same) (ap (λ o. o .moves) same) (p .free) (q .free), ap (λ o. o .first) same, ap (λ o. o .second) same)
+    (one-word w w′ (ap (λ o. o .number) same) (ap (λ o. o .value) same) (ap (λ o. o .moves) same) (p .slot ∙ sym (q .slot)), ap (λ o. o .first) same, ap (λ o. o .second) same)
 
-one-told : (w w′ : ℕ) → heardTold w ≡ heardTold w′ → movesIn w ≡ 0 → movesIn w′ ≡ 0 → freeIn w ≡ 0 → freeIn w′ ≡ 0 → w ≡ w′
-one-told w w′ same m m′ f f′ = one-word w w′ (ap (λ (a : Told). a .number) same) (ap (λ (a : Told). a .value) same) (m ∙ sym m′) f f′
+one-told : (w w′ : ℕ) → heardTold w ≡ heardTold w′ → movesIn w ≡ 0 → movesIn w′ ≡ 0 → slotIn w ≡ slotIn w′ → w ≡ w′
+one-told w w′ same m m′ slot = one-word w w′ (ap (λ (a : Told). a .number) same) (ap (λ (a : Told). a .value) same) (m ∙ sym m′) slot
 
 -- In what follows a are the arguments, r and r′ are words, and e and e′ the arguments as they are at the return.
 module _ (κs : Lfts 2) where
@@ -129,10 +129,10 @@ module _ (κs : Lfts 5) where
 
 module _ (κs : Lfts 1) where
   pub tum-record-judge-once : Twice records.tum_record_judge.ended κs (records.tum_record_judge.Reads.Learnt κs) (λ r e r′ e′. r ≡ r′)
-  tum-record-judge-once a r r′ e e′ p q = one-told r r′ (p .row ∙ sym (q .row)) (p .still) (q .still) (p .free) (q .free)
+  tum-record-judge-once a r r′ e e′ p q = one-told r r′ (p .row ∙ sym (q .row)) (p .still) (q .still) (p .slot ∙ sym (q .slot))
 
 module _ (κs : Lfts 2) where
   pub tum-record-text-once : Twice records.tum_record_text.ended κs (records.tum_record_text.Reads.Learnt κs) (λ r e r′ e′. (r ≡ r′) × (now (e .1 .1 .1 .0) ≡ now (e′ .1 .1 .1 .0)))
   tum-record-text-once a r r′ e e′ p q =
       let same = p .row ∙ sym (q .row) in
-      (one-told r r′ (ap (λ (u : Unquoted). u .answer) same) (p .still) (q .still) (p .free) (q .free), ap (λ (u : Unquoted). u .out) same)
+      (one-told r r′ (ap (λ (u : Unquoted). u .answer) same) (p .still) (q .still) (p .slot ∙ sym (q .slot)), ap (λ (u : Unquoted). u .out) same)

@@ -5,6 +5,7 @@ use Prim.Native.Nat.{ℕ}
 use Rattle.slots.specs.Layout.{ring}
 use Rattle.table.specs.Calls.{Look, look}
 use Rattle.table.specs.Does.{does}
+use Rattle.table.specs.Reported.{noSlot}
 use Rattle.ring.specs.declared.Ring.{Ring}
 use Rattle.ring.specs.Seen.{tray}
 use Rattle.cursors.specs.declared.Cursor.{Cursor}
@@ -19,20 +20,20 @@ module _ (s : Step) (v : Cursor) (word : ℕ) (r : Ring) (st sl : List ℕ) (q :
   stepped : r ≡ ringIn st → seen s (tray r sl) ≡ does ring (look q) (tray r sl) → seen s (ringOf st sl) ≡ does ring (look q) (ringOf st sl)
   stepped er e = rw er at e
 
-  pub entry-heard : (x : ℕ) → s ≡ Entry x v → r ≡ ringIn st → seen s (tray r sl) ≡ does ring (look q) (tray r sl) → Worded 0 x 0 word
+  pub entry-heard : (x : ℕ) → s ≡ Entry x v → r ≡ ringIn st → seen s (tray r sl) ≡ does ring (look q) (tray r sl) → Worded 0 x 0 noSlot word
       → HearsAt ring q (ringOf st sl) word (cursor v)
-  entry-heard x is er e w = record { row = heard-at 0 x 0 word _ (cursor v) _ w (ap (λ s. seen s (ringOf st sl)) (sym is) ∙ stepped er e); free = w .free }
+  entry-heard x is er e w = record { row = heard-at 0 x 0 noSlot word _ (cursor v) _ w (ap (λ s. seen s (ringOf st sl)) (sym is) ∙ stepped er e); slot = w .slot }
 
-  pub invalid-heard : s ≡ Invalid v → r ≡ ringIn st → seen s (tray r sl) ≡ does ring (look q) (tray r sl) → Worded 1 0 0 word
+  pub invalid-heard : s ≡ Invalid v → r ≡ ringIn st → seen s (tray r sl) ≡ does ring (look q) (tray r sl) → Worded 1 0 0 noSlot word
       → HearsAt ring q (ringOf st sl) word (cursor v)
-  invalid-heard is er e w = record { row = heard-at 1 0 0 word _ (cursor v) _ w (ap (λ s. seen s (ringOf st sl)) (sym is) ∙ stepped er e); free = w .free }
+  invalid-heard is er e w = record { row = heard-at 1 0 0 noSlot word _ (cursor v) _ w (ap (λ s. seen s (ringOf st sl)) (sym is) ∙ stepped er e); slot = w .slot }
 
-  pub astray-heard : s ≡ Astray v → r ≡ ringIn st → seen s (tray r sl) ≡ does ring (look q) (tray r sl) → Worded 3 0 0 word
+  pub astray-heard : s ≡ Astray v → r ≡ ringIn st → seen s (tray r sl) ≡ does ring (look q) (tray r sl) → Worded 3 0 0 noSlot word
       → HearsAt ring q (ringOf st sl) word (cursor v)
-  astray-heard is er e w = record { row = heard-at 3 0 0 word _ (cursor v) _ w (ap (λ s. seen s (ringOf st sl)) (sym is) ∙ stepped er e); free = w .free }
+  astray-heard is er e w = record { row = heard-at 3 0 0 noSlot word _ (cursor v) _ w (ap (λ s. seen s (ringOf st sl)) (sym is) ∙ stepped er e); slot = w .slot }
 
-  pub ended-heard : s ≡ Ended v → r ≡ ringIn st → seen s (tray r sl) ≡ does ring (look q) (tray r sl) → Worded 4 0 0 word
+  pub ended-heard : s ≡ Ended v → r ≡ ringIn st → seen s (tray r sl) ≡ does ring (look q) (tray r sl) → Worded 4 0 0 noSlot word
       → HearsAt ring q (ringOf st sl) word (cursor v)
-  ended-heard is er e w = record { row = heard-at 4 0 0 word _ (cursor v) _ w (ap (λ s. seen s (ringOf st sl)) (sym is) ∙ stepped er e); free = w .free }
+  ended-heard is er e w = record { row = heard-at 4 0 0 noSlot word _ (cursor v) _ w (ap (λ s. seen s (ringOf st sl)) (sym is) ∙ stepped er e); slot = w .slot }
 
 pub ruleset steps = (entry-heard, invalid-heard, astray-heard, ended-heard)

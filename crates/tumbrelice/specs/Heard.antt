@@ -7,17 +7,18 @@ use Rattle.slots.specs.Layout.{Kind}
 use Rattle.table.specs.Tray.{Tray, Cursor, nowhere}
 use Rattle.table.specs.Calls.{Call, Call2, Look, look}
 use Rattle.table.specs.Does.{Outcome, Outcome2, does, does2}
+use Rattle.table.specs.Reported.{noSlot, reported}
 use Rattle.ring.specs.declared.Ring.{Ring}
 use Rattle.ring.specs.Seen as rings
 use Rattle.vector.specs.declared.Vector.{Vector}
 use Rattle.vector.specs.Seen as vectors
 
--- the value is the word's low 32 bits, the next 16 are kept free, the moves are the next 12, the number is the high 4
+-- the value is the word's low 32 bits, the slot the next 16, the moves are the next 12, the number is the high 4
 abbrev pub valueIn : ℕ → ℕ
 valueIn word = word % 4294967296
 
-abbrev pub freeIn : ℕ → ℕ
-freeIn word = word / 4294967296 % 65536
+abbrev pub slotIn : ℕ → ℕ
+slotIn word = word / 4294967296 % 65536
 
 abbrev pub movesIn : ℕ → ℕ
 movesIn word = word / 4294967296 / 65536 % 4096
@@ -59,24 +60,24 @@ heard word t = heardAt word t nowhere
 abbrev pub heard2 : (word : ℕ) → (t t2 : Tray) → Outcome2
 heard2 word t t2 = record { number = numberIn word; value = valueIn word; moves = movesIn word; first = t; second = t2; cursor = nowhere }
 
--- The promise of an exported call: its word and the container afterwards are its row, and the free bits are 0.
+-- The promise of an exported call: its word and the container afterwards are its row, and the word has the slot that the call reports.
 pub record Hears (k : Kind) (call : Call) (before : Tray) (word : ℕ) (after : Tray) : Type 0 where
   pub row : heard word after ≡ does k call before
-  pub free : freeIn word ≡ 0
+  pub slot : slotIn word ≡ reported k call before
 
--- of a step of a cursor, which comes to be u
+-- of a step of a cursor, which comes to be u: it reports no slot
 pub record HearsAt (k : Kind) (q : Look) (t : Tray) (word : ℕ) (u : Cursor) : Type 0 where
   pub row : heardAt word t u ≡ does k (look q) t
-  pub free : freeIn word ≡ 0
+  pub slot : slotIn word ≡ noSlot
 
--- of a call on two
+-- of a call on two, likewise
 pub record Hears2 (k k2 : Kind) (call : Call2) (before before2 : Tray) (word : ℕ) (after after2 : Tray) : Type 0 where
   pub row : heard2 word after after2 ≡ does2 k k2 call before before2
-  pub free : freeIn word ≡ 0
+  pub slot : slotIn word ≡ noSlot
 
 -- what the private function `word` makes
-pub record Worded (m x k word : ℕ) : Type 0 where
+pub record Worded (m x k n word : ℕ) : Type 0 where
   pub number : numberIn word ≡ m
   pub value : valueIn word ≡ x
   pub moves : movesIn word ≡ k
-  pub free : freeIn word ≡ 0
+  pub slot : slotIn word ≡ n

@@ -3,15 +3,16 @@ use Prim.Native.Nat.{ℕ}
 use mathlib.Core.Path.{_≡_}
 use mathlib.Core.List.{List}
 use Rattle.table.specs.Tray.{Tray}
+use Rattle.table.specs.Reported.{noSlot}
 use Rattle.record.specs.declared.texts.Told.{Told}
 use Rattle.record.specs.Recorded.{told, judges, records}
 use Rattle.record.specs.Unquoted.{unquoted, unquotes}
-use Rattle.tumbrelice.specs.Heard.{valueIn, freeIn, movesIn, numberIn, heard2}
+use Rattle.tumbrelice.specs.Heard.{valueIn, slotIn, movesIn, numberIn, heard2}
 
--- of a record read onto two vectors: its word and both vectors afterwards are what `records` says, and the free bits are 0
+-- of a record read onto two vectors: its word and both vectors afterwards are what `records` says; here and below no slot is reported
 pub record HearsRecord (text : List ℕ) (before before2 : Tray) (word : ℕ) (after after2 : Tray) : Type 0 where
   pub row : heard2 word after after2 ≡ records text before before2
-  pub free : freeIn word ≡ 0
+  pub slot : slotIn word ≡ noSlot
 
 -- a word as an answer on a text alone
 abbrev pub heardTold : (word : ℕ) → Told
@@ -21,10 +22,10 @@ heardTold word = told (numberIn word) (valueIn word)
 pub record HearsTold (text : List ℕ) (word : ℕ) : Type 0 where
   pub row : heardTold word ≡ judges text
   pub still : movesIn word ≡ 0
-  pub free : freeIn word ≡ 0
+  pub slot : slotIn word ≡ noSlot
 
 -- of a field's text, which is written to `out`
 pub record HearsUndone (text : List ℕ) (start end : ℕ) (out : List ℕ) (word : ℕ) (after : List ℕ) : Type 0 where
   pub row : unquoted (heardTold word) after ≡ unquotes text start end out
   pub still : movesIn word ≡ 0
-  pub free : freeIn word ≡ 0
+  pub slot : slotIn word ≡ noSlot

@@ -18,7 +18,7 @@ pub extern "C" fn tum_ring_same(
     let r = ring_in(state);
     let t = ring_in(other);
     let a = pairs::rings::same(r, slots, t, theirs);
-    word(a.number, a.value, a.moves)
+    word(a.number, a.value, a.moves, a.slot)
 }
 
 #[no_mangle]
@@ -33,7 +33,7 @@ pub extern "C" fn tum_vector_equal(
     let v = vector_in(state);
     let t = vector_in(other);
     let a = pairs::vectors::equal(v, slots, t, theirs);
-    word(a.number, a.value, a.moves)
+    word(a.number, a.value, a.moves, a.slot)
 }
 
 #[no_mangle]
@@ -48,5 +48,5 @@ pub extern "C" fn tum_ring_same_as_vector(
     let r = ring_in(state);
     let t = vector_in(other);
     let a = pairs::mixed::same_as_vector(r, slots, t, theirs);
-    word(a.number, a.value, a.moves)
+    word(a.number, a.value, a.moves, a.slot)
 }

@@ -1,5 +1,5 @@
 // The calls as C or Rust may link them. A container's state is passed by pointer, its slots as a pointer and their number. The answer is one
-// word, packed by what can occur: the value in the low 32 bits, 16 bits that are 0, the moves in the next 12, the number in the high 4.
+// word, packed by what can occur: the value in the low 32 bits, the slot in the next 16, the moves in the next 12, the number in the high 4.
 pub mod rings; // rings.rt: the calls on a ring
 pub mod vectors; // vectors.rt: the calls on a vector
 pub mod two; // two.rt: the calls that change two rings
@@ -38,10 +38,13 @@ fn vector_out(state: &mut usize, v: Vector)
     *state = v.len;
 }
 
-// Every answer is put together here. The 16 free bits have room for a slot.
-fn word(number: u8, value: u32, moves: usize) -> u64
-    requires { ⌜ (number < 16) × (moves < 4096) ⌝ }
-    ensures { λ r. ⌜ Worded number value moves r ⌝ }
+// Every answer is put together here. One that is done goes a way of its own, so that a call's end is not shared with its refusals.
+fn word(number: u8, value: u32, moves: usize, slot: usize) -> u64
+    requires { ⌜ (number < 16) × (moves < 4096) × (slot < 65536) ⌝ }
+    ensures { λ r. ⌜ Worded number value moves slot r ⌝ }
 {
-    (number as u64 * 4096 + moves as u64) * 65536 * 4294967296 + value as u64
+    if number == 0 {
+        return (moves as u64 * 65536 + slot as u64) * 4294967296 + value as u64;
+    }
+    ((number as u64 * 4096 + moves as u64) * 65536 + slot as u64) * 4294967296 + value as u64
 }

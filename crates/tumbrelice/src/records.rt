@@ -20,7 +20,7 @@ pub extern "C" fn tum_record_read(
     let a = record::read(text, v, slots, t, theirs);
     vector_out(state, a.first);
     vector_out(other, a.second);
-    word(a.number, a.value, a.moves)
+    word(a.number, a.value, a.moves, a.slot)
 }
 
 #[no_mangle]
@@ -28,7 +28,7 @@ pub extern "C" fn tum_record_judge(text: &[u8]) -> u64
     ensures { λ r. ⌜ HearsTold (now (text .entry)) r ⌝ }
 {
     let a = record::texts::judge(text);
-    word(a.number, a.value, 0)
+    word(a.number, a.value, 0, slots::NO_SLOT)
 }
 
 #[no_mangle]
@@ -36,5 +36,5 @@ pub extern "C" fn tum_record_text(text: &[u8], start: usize, end: usize, out: &m
     ensures { λ r. ⌜ HearsUndone (now (text .entry)) start end (now (out .entry)) r (now (out .exit)) ⌝ }
 {
     let a = record::texts::field_text(text, start, end, out);
-    word(a.number, a.value, 0)
+    word(a.number, a.value, 0, slots::NO_SLOT)
 }

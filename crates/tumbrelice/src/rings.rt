@@ -13,7 +13,7 @@ pub extern "C" fn tum_ring_push_back(slots: &mut [u32], state: &mut [usize; 2], 
     let r = ring_in(state);
     let a = r.push_back(slots, x);
     ring_out(state, a.ring);
-    word(a.number, a.value, a.moves)
+    word(a.number, a.value, a.moves, a.slot)
 }
 
 #[no_mangle]
@@ -23,7 +23,7 @@ pub extern "C" fn tum_ring_push_front(slots: &mut [u32], state: &mut [usize; 2],
     let r = ring_in(state);
     let a = r.push_front(slots, x);
     ring_out(state, a.ring);
-    word(a.number, a.value, a.moves)
+    word(a.number, a.value, a.moves, a.slot)
 }
 
 #[no_mangle]
@@ -33,7 +33,7 @@ pub extern "C" fn tum_ring_pop_back(slots: &mut [u32], state: &mut [usize; 2]) -
     let r = ring_in(state);
     let a = r.pop_back(slots);
     ring_out(state, a.ring);
-    word(a.number, a.value, a.moves)
+    word(a.number, a.value, a.moves, a.slot)
 }
 
 #[no_mangle]
@@ -43,7 +43,7 @@ pub extern "C" fn tum_ring_pop_front(slots: &mut [u32], state: &mut [usize; 2]) 
     let r = ring_in(state);
     let a = r.pop_front(slots);
     ring_out(state, a.ring);
-    word(a.number, a.value, a.moves)
+    word(a.number, a.value, a.moves, a.slot)
 }
 
 #[no_mangle]
@@ -58,7 +58,7 @@ pub extern "C" fn tum_ring_insert(
     let r = ring_in(state);
     let a = r.insert(slots, i, x);
     ring_out(state, a.ring);
-    word(a.number, a.value, a.moves)
+    word(a.number, a.value, a.moves, a.slot)
 }
 
 #[no_mangle]
@@ -68,7 +68,7 @@ pub extern "C" fn tum_ring_remove(slots: &mut [u32], state: &mut [usize; 2], i: 
     let r = ring_in(state);
     let a = r.remove(slots, i);
     ring_out(state, a.ring);
-    word(a.number, a.value, a.moves)
+    word(a.number, a.value, a.moves, a.slot)
 }
 
 #[no_mangle]
@@ -83,7 +83,7 @@ pub extern "C" fn tum_ring_resize(
     let r = ring_in(state);
     let a = r.resize(slots, k, x);
     ring_out(state, a.ring);
-    word(a.number, a.value, a.moves)
+    word(a.number, a.value, a.moves, a.slot)
 }
 
 #[no_mangle]
@@ -93,7 +93,7 @@ pub extern "C" fn tum_ring_clear(slots: &mut [u32], state: &mut [usize; 2]) -> u
     let r = ring_in(state);
     let a = r.clear(slots);
     ring_out(state, a.ring);
-    word(a.number, a.value, a.moves)
+    word(a.number, a.value, a.moves, a.slot)
 }
 
 #[no_mangle]
@@ -102,5 +102,5 @@ pub extern "C" fn tum_ring_read(slots: &[u32], state: &[usize; 2], i: usize) -> 
 {
     let r = ring_in(state);
     let a = r.read(slots, i);
-    word(a.number, a.value, a.moves)
+    word(a.number, a.value, a.moves, a.slot)
 }

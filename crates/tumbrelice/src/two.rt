@@ -20,7 +20,7 @@ pub extern "C" fn tum_ring_append(
     let a = pairs::rings::append(r, slots, t, theirs);
     ring_out(state, a.first);
     ring_out(other, a.second);
-    word(a.number, a.value, a.moves)
+    word(a.number, a.value, a.moves, a.slot)
 }
 
 #[no_mangle]
@@ -36,5 +36,5 @@ pub extern "C" fn tum_ring_clone(
     let t = ring_in(other);
     let a = pairs::rings::clone(r, slots, t, theirs);
     ring_out(other, a.second);
-    word(a.number, a.value, a.moves)
+    word(a.number, a.value, a.moves, a.slot)
 }

@@ -13,7 +13,7 @@ pub extern "C" fn tum_vector_push(slots: &mut [u32], state: &mut usize, x: u32) 
     let v = vector_in(state);
     let a = v.push(slots, x);
     vector_out(state, a.vector);
-    word(a.number, a.value, a.moves)
+    word(a.number, a.value, a.moves, a.slot)
 }
 
 #[no_mangle]
@@ -23,7 +23,7 @@ pub extern "C" fn tum_vector_pop(slots: &mut [u32], state: &mut usize) -> u64
     let v = vector_in(state);
     let a = v.pop(slots);
     vector_out(state, a.vector);
-    word(a.number, a.value, a.moves)
+    word(a.number, a.value, a.moves, a.slot)
 }
 
 #[no_mangle]
@@ -33,7 +33,7 @@ pub extern "C" fn tum_vector_insert(slots: &mut [u32], state: &mut usize, i: usi
     let v = vector_in(state);
     let a = v.insert(slots, i, x);
     vector_out(state, a.vector);
-    word(a.number, a.value, a.moves)
+    word(a.number, a.value, a.moves, a.slot)
 }
 
 #[no_mangle]
@@ -43,7 +43,7 @@ pub extern "C" fn tum_vector_remove(slots: &mut [u32], state: &mut usize, i: usi
     let v = vector_in(state);
     let a = v.remove(slots, i);
     vector_out(state, a.vector);
-    word(a.number, a.value, a.moves)
+    word(a.number, a.value, a.moves, a.slot)
 }
 
 #[no_mangle]
@@ -53,7 +53,7 @@ pub extern "C" fn tum_vector_swap_remove(slots: &mut [u32], state: &mut usize, i
     let v = vector_in(state);
     let a = v.swap_remove(slots, i);
     vector_out(state, a.vector);
-    word(a.number, a.value, a.moves)
+    word(a.number, a.value, a.moves, a.slot)
 }
 
 #[no_mangle]
@@ -63,7 +63,7 @@ pub extern "C" fn tum_vector_truncate(slots: &mut [u32], state: &mut usize, k: u
     let v = vector_in(state);
     let a = v.truncate(slots, k);
     vector_out(state, a.vector);
-    word(a.number, a.value, a.moves)
+    word(a.number, a.value, a.moves, a.slot)
 }
 
 #[no_mangle]
@@ -77,7 +77,7 @@ pub extern "C" fn tum_vector_extend_from_slice(
     let v = vector_in(state);
     let a = v.extend_from_slice(slots, s);
     vector_out(state, a.vector);
-    word(a.number, a.value, a.moves)
+    word(a.number, a.value, a.moves, a.slot)
 }
 
 #[no_mangle]
@@ -86,5 +86,5 @@ pub extern "C" fn tum_vector_read(slots: &[u32], state: &usize, i: usize) -> u64
 {
     let v = vector_in(state);
     let a = v.read(slots, i);
-    word(a.number, a.value, a.moves)
+    word(a.number, a.value, a.moves, a.slot)
 }

@@ -24,19 +24,19 @@ pub extern "C" fn tum_ring_step_front(
     match s {
         Step::Entry(x, v) => {
             *cursor = [v.front, v.back];
-            word(0, x, 0)
+            word(0, x, 0, slots::NO_SLOT)
         }
         Step::Invalid(v) => {
             *cursor = [v.front, v.back];
-            word(1, 0, 0)
+            word(1, 0, 0, slots::NO_SLOT)
         }
         Step::Astray(v) => {
             *cursor = [v.front, v.back];
-            word(3, 0, 0)
+            word(3, 0, 0, slots::NO_SLOT)
         }
         Step::Ended(v) => {
             *cursor = [v.front, v.back];
-            word(4, 0, 0)
+            word(4, 0, 0, slots::NO_SLOT)
         }
     }
 }

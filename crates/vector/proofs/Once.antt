@@ -10,7 +10,7 @@ use Rattle.table.specs.Does.{Outcome}
 use Rattle.table.proofs.Theorems.Unique.{one-answer}
 use Rattle.vector.specs.declared.Vector.{Vector}
 use Rattle.vector.specs.declared.Answer.{Answer}
-use Rattle.vector.specs.Seen.{seen, Meets, Makes, state, says}
+use Rattle.vector.specs.Seen.{seen, Meets, Makes, state}
 use Rattle.table.proofs.Laws.Lending.{one-part}
 use Rattle.vector.proofs.Vector as fns
 use Rattle.vector.proofs.state as state·fn
@@ -18,16 +18,18 @@ use Rattle.vector.proofs.refused as refused·fn
 use Rattle.vector.proofs.shows as shows·fn
 use Rattle.vector.proofs.done as done·fn
 
--- an answer is told by what is seen of it
-told-by : (o : Outcome) (r r′ : Answer) (s s′ : List ℕ) → seen r s ≡ o → seen r′ s′ ≡ o → (r ≡ r′) × (s ≡ s′)
-told-by = one-answer seen (λ o. says (o .number) (o .value) (o .moves) (state (o .tray .len))) (λ r s. refl) (λ r s. refl)
+-- an answer is told by what is seen of it and by the slot that it reports
+told-by : (o : Outcome) (n : ℕ) (r r′ : Answer) (s s′ : List ℕ) → seen r s ≡ o → seen r′ s′ ≡ o → r .slot ≡ n → r′ .slot ≡ n → (r ≡ r′) × (s ≡ s′)
+told-by =
+    one-answer seen (λ r. r .slot) (λ o n. record { number = o .number; value = o .value; moves = o .moves; slot = n; vector = state (o .tray .len) })
+    (λ r s. refl) (λ r s. refl)
 
 -- every promise that bears a number is `Meets`, a making's `Makes`
 one : {call : Call} {v : Vector} {b : List ℕ} (r r′ : Answer) (s s′ : List ℕ) → Meets call v b r s → Meets call v b r′ s′ → (r ≡ r′) × (s ≡ s′)
-one r r′ s s′ p q = told-by _ r r′ s s′ (p .row) (q .row)
+one r r′ s s′ p q = told-by _ _ r r′ s s′ (p .row) (q .row) (p .slot) (q .slot)
 
 one-made : {m : Making} {b : List ℕ} (r r′ : Answer) (s s′ : List ℕ) → Makes m b r s → Makes m b r′ s′ → (r ≡ r′) × (s ≡ s′)
-one-made r r′ s s′ p q = told-by _ r r′ s s′ (p .row) (q .row)
+one-made r r′ s s′ p q = told-by _ _ r r′ s s′ (p .row) (q .row) (p .slot) (q .slot)
 
 module _ (κs : Lfts 1) where
   pub new-once : Twice fns.new.ended κs (fns.new.Reads.Learnt κs) (λ r e r′ e′. r ≡ r′)

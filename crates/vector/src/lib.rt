@@ -4,7 +4,7 @@ pub mod parts; // parts.rt: the parts of the slots that are lent on
 
 ghost use mathlib.Core.Path.{_≡_};
 ghost use Rattle.table.specs.Calls.{write, push, pop, insert, remove, swapRemove, truncate, resize, clear, extend};
-ghost use Rattle.vector.specs.Seen.{Meets, state, says};
+ghost use Rattle.vector.specs.Seen.{Meets, state, says, lit};
 
 pub struct Vector {
     pub len: usize,
@@ -14,6 +14,7 @@ pub struct Answer {
     pub number: u8,
     pub value: u32,
     pub moves: usize,
+    pub slot: usize,
     pub vector: Vector,
 }
 
@@ -31,7 +32,7 @@ impl Vector {
         }
         let old = slots[i];
         slots[i] = x;
-        shows(old, self)
+        lit(i, shows(old, self))
     }
 
     pub fn push(self, slots: &mut [u32], x: u32) -> Answer
@@ -46,7 +47,7 @@ impl Vector {
             return refused(6, self);
         }
         slots[len] = x;
-        done(0, 0, len + 1)
+        lit(len, done(0, 0, len + 1))
     }
 
     pub fn pop(self, slots: &mut [u32]) -> Answer
@@ -63,7 +64,7 @@ impl Vector {
         let last = len - 1;
         let old = slots[last];
         slots[last] = 0;
-        done(old, 0, last)
+        lit(last, done(old, 0, last))
     }
 
     pub fn insert(self, slots: &mut [u32], i: usize, x: u32) -> Answer
@@ -82,7 +83,7 @@ impl Vector {
         }
         runs::run_up(slots, i, len);
         slots[i] = x;
-        done(0, len - i, len + 1)
+        lit(i, done(0, len - i, len + 1))
     }
 
     pub fn remove(self, slots: &mut [u32], i: usize) -> Answer
@@ -100,7 +101,7 @@ impl Vector {
         let old = slots[i];
         runs::run_down(slots, i, last);
         slots[last] = 0;
-        done(old, last - i, last)
+        lit(i, done(old, last - i, last))
     }
 
     // The last entry, where it is the one removed, is not stored back.
@@ -119,11 +120,11 @@ impl Vector {
         let old = slots[i];
         if i == last {
             slots[last] = 0;
-            return done(old, 0, last);
+            return lit(i, done(old, 0, last));
         }
         slots[i] = slots[last];
         slots[last] = 0;
-        done(old, 1, last)
+        lit(i, done(old, 1, last))
     }
 
     pub fn truncate(self, slots: &mut [u32], k: usize) -> Answer
@@ -205,6 +206,21 @@ fn says(number: u8, value: u32, moves: usize, vector: Vector) -> Answer
         number,
         value,
         moves,
+        slot: slots::NO_SLOT,
+        vector,
+    }
+}
+
+// A lamp lights at the slot concerned: the one that the call has used.
+fn lit(at: usize, a: Answer) -> Answer
+    ensures { λ r. ⌜ r ≡ lit at a ⌝ }
+{
+    let vector = a.vector;
+    Answer {
+        number: a.number,
+        value: a.value,
+        moves: a.moves,
+        slot: at,
         vector,
     }
 }

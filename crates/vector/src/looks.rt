@@ -2,6 +2,7 @@
 use super::Answer;
 use super::Vector;
 use super::done;
+use super::lit;
 use super::refused;
 use super::shows;
 use super::state;
@@ -82,7 +83,7 @@ impl Vector {
             }
             return refused(3, self);
         }
-        shows(slots[i], self)
+        lit(i, shows(slots[i], self))
     }
 
     // Whether k more entries have room.

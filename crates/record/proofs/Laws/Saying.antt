@@ -131,7 +131,7 @@ module _ (text : List ℕ) (first second : Vector) (s z : List ℕ) (m : ℕ) (i
 
   pub early-refused : (a : Both) → (m ≡ 0 → ⊥) → a ≡ says m 0 first second → Records text first s second z a s z
   unfolding records early
-  early-refused a no-zero e = record { row = ap (λ (a : Both). seen2 a s z) e ∙ sym (stopped Refuses (earlyTests (length s) (first .len) (length z) (second .len) (length text)) (lateTests text (length s) (length z)) Done m is no-zero) }
+  early-refused a no-zero e = record { row = ap (λ (a : Both). seen2 a s z) e ∙ sym (stopped Refuses (earlyTests (length s) (first .len) (length z) (second .len) (length text)) (lateTests text (length s) (length z)) Done m is no-zero); slot = ap (λ (a : Both). a .slot) e }
 
   module _ (zero : m ≡ 0) where
     above : Above (earlyTests (length s) (first .len) (length z) (second .len) (length text))
@@ -170,7 +170,7 @@ module _ (text : List ℕ) (first second : Vector) (s z : List ℕ) (m : ℕ) (i
       unfolding records
       late-refused a no-zero e =
           let holds : eqb (numberOf (scanned text .ending)) 0 ≡ false = ne-eqb _ 0 (λ zero′. no-zero (number-is ∙ zero′)) in
-          record { row = ap (λ (a : Both). seen2 a s z) e ∙ sym (past Done ∙ rw (holds, number-is) refl) }
+          record { row = ap (λ (a : Both). seen2 a s z) e ∙ sym (past Done ∙ rw (holds, number-is) refl); slot = ap (λ (a : Both). a .slot) e }
 
       module _ (read : v .number ≡ 0) where
         clear : eqb (numberOf (scanned text .ending)) 0 ≡ true
@@ -180,7 +180,7 @@ module _ (text : List ℕ) (first second : Vector) (s z : List ℕ) (m : ℕ) (i
         unfolding records
         few-starts a short e =
             let holds : ltb (length s) (length (scanned text .fields)) ≡ true = lt-ltb (length s) (length (scanned text .fields)) (omega (arith, count-is)) in
-            record { row = ap (λ (a : Both). seen2 a s z) e ∙ sym (past Done ∙ rw (clear, holds) refl) }
+            record { row = ap (λ (a : Both). seen2 a s z) e ∙ sym (past Done ∙ rw (clear, holds) refl); slot = ap (λ (a : Both). a .slot) e }
 
         module _ (room : v .count ≤ length s) where
           enough : ltb (length s) (length (scanned text .fields)) ≡ false
@@ -190,7 +190,7 @@ module _ (text : List ℕ) (first second : Vector) (s z : List ℕ) (m : ℕ) (i
           unfolding records
           few-ends a short e =
               let holds : ltb (length z) (length (scanned text .fields)) ≡ true = lt-ltb (length z) (length (scanned text .fields)) (omega (arith, count-is)) in
-              record { row = ap (λ (a : Both). seen2 a s z) e ∙ sym (past Done ∙ rw (clear, enough, holds) refl) }
+              record { row = ap (λ (a : Both). seen2 a s z) e ∙ sym (past Done ∙ rw (clear, enough, holds) refl); slot = ap (λ (a : Both). a .slot) e }
 
           pub placed : (a : Both) (s′ z′ : List ℕ) → v .count ≤ length z → s′ ≡ sets s 0 (firsts (scanned text .fields))
               → z′ ≡ sets z 0 (lasts (scanned text .fields)) → a ≡ says 0 (v .at) (state (v .count)) (state (v .count))
@@ -211,4 +211,5 @@ module _ (text : List ℕ) (first second : Vector) (s z : List ℕ) (m : ℕ) (i
                 row =
                     ap (λ (a : Both). seen2 a s′ z′) answer
                     ∙ sym (past Done ∙ rw (clear, enough, enough-too, many, many-too, ← laid-first, ← laid-second) refl);
+                slot = ap (λ (a : Both). a .slot) e;
               }

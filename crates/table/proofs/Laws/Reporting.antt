@@ -2,8 +2,7 @@
 use mathlib.Core.Path.{_≡_, sym, ap, _∙_}
 use mathlib.Core.Bool.{false}
 use mathlib.Core.Logic.{⊎-elim}
-use Prim.Native.Nat.{ℕ, _%_, _≤_, _<_}
-use native.Mathlib.Nat.{mod-eq-of-lt}
+use Prim.Native.Nat.{ℕ, _≤_, _<_}
 use native.Mathlib.Omega.{arith}
 use Rattle.slots.specs.Layout.{Kind, ring, slotOf}
 use Rattle.slots.proofs.Words.{below?}
@@ -13,8 +12,7 @@ use Rattle.table.specs.Calls.{Call}
 use Rattle.table.specs.Does.{Outcome, does}
 use Rattle.table.specs.Reported.{concerned, noSlot, slotFor, toldSlot, reported}
 use Rattle.table.proofs.Laws.Valid.{fit, ring-inside}
-use Rattle.table.proofs.Theorems.Refused.{call-clear}
-use Rattle.table.proofs.Theorems.Reported.{done-reports, slot-or-none}
+use Rattle.table.proofs.Theorems.Reported.{done-reports}
 
 module _ (k : Kind) (call : Call) (t : Tray) (o : Outcome) (promised : o ≡ does k call t) where
   -- no slot: of a refusal, or of a call about no entry
@@ -22,14 +20,9 @@ module _ (k : Kind) (call : Call) (t : Tray) (o : Outcome) (promised : o ≡ doe
   unfolding reported
   none-reported e = e ∙ ap (toldSlot k call t) promised
 
-  -- a slot, as the 16 bits of an answer: every slot fits them
-  pub slot-reported : o .number ≡ 0 → (at : ℕ) → at ≡ slotFor k (cap t) (t .head) (o .tray .head) (concerned (t .len) call)
-      → at % 65536 ≡ reported k call t
-  slot-reported zero at e =
-      let is : at ≡ reported k call t = e ∙ sym (done-reports k call t o promised zero) in
-      let few = fit k t (call-clear k call t o promised zero .0) .small in
-      let fits : at < 65536 = ⊎-elim (λ (lt : reported k call t < cap t). omega arith) (λ (none : reported k call t ≡ noSlot). omega arith) (slot-or-none k call t o promised) in
-      mod-eq-of-lt fits ∙ is
+  -- a slot: that of the entry that the call is about
+  pub slot-reported : o .number ≡ 0 → (at : ℕ) → at ≡ slotFor k (cap t) (t .head) (o .tray .head) (concerned (t .len) call) → at ≡ reported k call t
+  slot-reported zero at e = e ∙ sym (done-reports k call t o promised zero)
 
 -- position 0 of a ring stands in its head's slot, and the head of one that has an entry is a slot
 pub own-slot : (c h : ℕ) → h < c → h ≡ slotOf c h 0

@@ -11,16 +11,16 @@ use borrow.Author.Tests.{eq-eqb, ne-eqb}
 use lib.Dec.{eqb}
 use lib.ListN.{length, getD, length-set}
 use lib.Seq.{getD-set-same}
-use Rattle.slots.specs.Layout.{Kind, place}
+use Rattle.slots.specs.Layout.{most, Kind, ring, vector, place, slotOf}
 use Rattle.slots.specs.Lists.{insertAt, update}
 use Rattle.slots.proofs.Words.{same?, length-insert, insert-at, insert-last}
 use Rattle.slots.proofs.Placing.{one-slot, entry}
 use Rattle.slots.proofs.Relaid.{length-relaid}
-use Rattle.table.specs.Tray.{Tray, cap, list, invalid}
+use Rattle.table.specs.Tray.{Tray, cap, list, valid, invalid}
 use Rattle.table.specs.Calls.{Look, len, isEmpty, read, reserve, tryReserve, tryReserveExact, range, iter, intoIter, stepFront, stepBack, peekFront, peekBack}
 use Rattle.table.specs.Calls.{Call, push, pushFront, pop, popFront, insert, remove, swapRemove, write, truncate, resize, clear, extend, look}
 use Rattle.table.specs.Table.{row, lookRow, after}
-use Rattle.table.specs.Does.{Outcome, does, rowOf}
+use Rattle.table.specs.Does.{Outcome, does, refusalsOf}
 use Rattle.table.specs.Reported.{Concerned, standsAt, stoodAt, noEntry, concerned, concernedLook, noSlot, slotFor, toldSlot, reported}
 use Rattle.table.proofs.Laws.Refusals.{Clear, passed-tests}
 use Rattle.table.proofs.Laws.Valid.{fit}
@@ -166,6 +166,15 @@ module _ (k : Kind) (call : Call) (t : Tray) (o : Outcome) (promised : o ≡ doe
   below-capacity below =
       ⊎-elim (λ (lt : reported k call t < cap t). lt) (λ (e : reported k call t ≡ noSlot). absurd (omega arith)) slot-or-none
 
+  -- so it takes 16 bits
+  pub fits-16 : reported k call t < 65536
+  fits-16 =
+      ⊎-elim
+      (λ (lt : reported k call t < cap t). ⊎-elim (λ (zero : o .number ≡ 0). omega (arith, fit k t (call-clear k call t o promised zero .0) .small))
+      (λ (some : o .number ≡ 0 → ⊥). omega (arith, refused-reports some)) (same? (o .number) 0))
+      (λ (e : reported k call t ≡ noSlot). omega arith)
+      slot-or-none
+
 -- EXACTLY BY THESE CALLS, as request 10 names them: push at either end, insert, read and write; pops, remove and swap_remove.
 pub data Reports : Call → Type 0 where
   a-push : (x : ℕ) → Reports (push x)
@@ -219,21 +228,51 @@ of-these k call t now y s (a-remove i) h same = h .below
 of-these k call t now y s (a-swap-remove i) h same = h .below
 
 module _ (k : Kind) (call : Call) (t : Tray) (o : Outcome) (promised : o ≡ does k call t) where
-  -- done, and one of these: a slot of the container; with 4,096 slots too the number is below 4,096
-  pub reports-slot : o .number ≡ 0 → Reports call → (reported k call t < cap t) × (reported k call t < 4096)
+  -- done, and one of these: a slot of the container, and no container has so many that its number could be taken for none
+  pub reports-slot : o .number ≡ 0 → Reports call → (reported k call t < cap t) × (reported k call t < noSlot)
   reports-slot zero these =
       let below = of-these k call t (o .tray) _ _ these (done-holds k call t o promised zero) (same-cap k call t o promised zero) in
       (below, omega (arith, fit k t (call-clear k call t o promised zero .0) .small))
 
+  -- where the column names no entry, none
+  pub reports-none : concerned (t .len) call ≡ noEntry → reported k call t ≡ noSlot
+  reports-none none =
+      ⊎-elim
+      (λ (zero : o .number ≡ 0). done-reports k call t o promised zero ∙ ap (slotFor k (cap t) (t .head) (o .tray .head)) none)
+      (λ (some : o .number ≡ 0 → ⊥). refused-reports k call t o promised some)
+      (same? (o .number) 0)
+
   -- a slot reported: done, and one of these
   pub reports-only : reported k call t < noSlot → (o .number ≡ 0) × Reports call
-  reports-only below =
-      ⊎-elim
-      (λ (zero : o .number ≡ 0). (zero, ⊎-elim (λ (these : Reports call). these) (λ (none : concerned (t .len) call ≡ noEntry). absurd (reports-none zero none)) (names (t .len) call)))
-      (λ (some : o .number ≡ 0 → ⊥). absurd (omega (arith, refused-reports k call t o promised some)))
-      (same? (o .number) 0)
-    where
-      reports-none : o .number ≡ 0 → concerned (t .len) call ≡ noEntry → ⊥
-      reports-none zero none =
-          let slot : reported k call t ≡ noSlot = done-reports k call t o promised zero ∙ ap (slotFor k (cap t) (t .head) (o .tray .head)) none in
-          omega arith
+  reports-only below = (
+    ⊎-elim (λ (zero : o .number ≡ 0). zero) (λ (some : o .number ≡ 0 → ⊥). absurd (omega (arith, refused-reports k call t o promised some))) (same? (o .number) 0),
+    ⊎-elim (λ (these : Reports call). these) (λ (none : concerned (t .len) call ≡ noEntry). absurd (omega (arith, reports-none none))) (names (t .len) call),
+  )
+
+-- ALL OF IT, of an answer whose outcome is o and whose slot is n, as a promise has them
+pub record Lit (k : Kind) (call : Call) (t : Tray) (o : Outcome) (n : ℕ) : Type 0 where
+  pub below : n < noSlot → n < cap t
+  pub holds : o .number ≡ 0 → Holds k (concerned (t .len) call) t (o .tray) (entryOf call (o .value)) n
+  pub reports : o .number ≡ 0 → Reports call → (n < cap t) × (n < noSlot)
+  pub only : n < noSlot → (o .number ≡ 0) × Reports call
+
+pub lit-as-promised : (k : Kind) (call : Call) (t : Tray) (o : Outcome) (n : ℕ) → o ≡ does k call t → n ≡ reported k call t → Lit k call t o n
+lit-as-promised k call t o n promised is =
+    rw is (record {
+      below = below-capacity k call t o promised;
+      holds = done-holds k call t o promised;
+      reports = reports-slot k call t o promised;
+      only = reports-only k call t o promised;
+    })
+
+-- FULL AT 4,096, the last entry stands in slot 4,095, and that is what is reported of it.
+last-of-most : (k : Kind) (t : Tray) → invalid k t ≡ false → t .len ≡ most → reported k pop t ≡ place k (cap t) (t .head) (most - 1)
+last-of-most k t ok many-are =
+    let free : Clear (refusalsOf k pop t) = (ok, (rw many-are refl, tt)) in
+    let zero : does k pop t .number ≡ 0 = ap (λ o. o .number) (call-settled k pop t .otherwise free) in
+    done-reports k pop t (does k pop t) refl zero ∙ ap (λ n. place k (cap t) (t .head) (n - 1)) many-are
+
+pub full-at-most : (k : Kind) (t : Tray) → cap t ≡ most → t .len ≡ most → t .head ≡ 0 → reported k pop t ≡ most - 1
+unfolding valid slotOf
+full-at-most ring t c n h = last-of-most ring t (rw (c, n, h) refl) n ∙ rw (c, h) refl
+full-at-most vector t c n h = last-of-most vector t (rw (c, n) refl) n

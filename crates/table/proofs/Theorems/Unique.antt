@@ -1,5 +1,5 @@
 -- One answer: a promise `seen a slots ≡ o` leaves one answer and one content of the slots, and each call has exactly one outcome.
-use mathlib.Core.Path.{_≡_, refl, sym, ap, _∙_}
+use mathlib.Core.Path.{_≡_, refl, sym, ap, ap₂, _∙_}
 use mathlib.Core.Bool.{true}
 use mathlib.Core.List.{List, [], _∷_}
 use Prim.Native.Nat.{ℕ, _+_, _<_}
@@ -12,21 +12,23 @@ use Rattle.table.specs.World.{World, Event, arrived, called, calledTwo, 
 use Rattle.table.proofs.Laws.Keeps.{call-kept, two-kept, made-arrives}
 use Rattle.table.proofs.Theorems.Demand3.{demand-3}
 
--- For any type A of answers whose fields an outcome shows: `answer` reads the answer back, and what was read is what was seen.
-pub one-answer : {A : Type 0} (seen : A → List ℕ → Outcome) (answer : Outcome → A) → ((a : A) (s : List ℕ) → answer (seen a s) ≡ a)
-    → ((a : A) (s : List ℕ) → seen a s .tray .slots ≡ s)
-    → (o : Outcome) (a a′ : A) (s s′ : List ℕ) → seen a s ≡ o → seen a′ s′ ≡ o → (a ≡ a′) × (s ≡ s′)
-one-answer seen answer back kept o a a′ s s′ p q = (
-  sym (back a s) ∙ ap answer (p ∙ sym q) ∙ back a′ s′,
+-- For any type A of answers whose fields an outcome shows, but for those `beside` the row: `answer` reads the answer back, and what was read is what was seen.
+pub one-answer : {A B : Type 0} (seen : A → List ℕ → Outcome) (beside : A → B) (answer : Outcome → B → A)
+    → ((a : A) (s : List ℕ) → answer (seen a s) (beside a) ≡ a) → ((a : A) (s : List ℕ) → seen a s .tray .slots ≡ s)
+    → (o : Outcome) (b : B) (a a′ : A) (s s′ : List ℕ) → seen a s ≡ o → seen a′ s′ ≡ o → beside a ≡ b → beside a′ ≡ b → (a ≡ a′) × (s ≡ s′)
+one-answer seen beside answer back kept o b a a′ s s′ p q x y = (
+  sym (back a s) ∙ ap₂ answer (p ∙ sym q) (x ∙ sym y) ∙ back a′ s′,
   sym (kept a s) ∙ ap (λ o. o .tray .slots) (p ∙ sym q) ∙ kept a′ s′,
 )
 
 -- the same of a call on two containers
-pub one-answer2 : {A : Type 0} (seen : A → (s s2 : List ℕ) → Outcome2) (answer : Outcome2 → A) → ((a : A) (s s2 : List ℕ) → answer (seen a s s2) ≡ a)
+pub one-answer2 : {A B : Type 0} (seen : A → (s s2 : List ℕ) → Outcome2) (beside : A → B) (answer : Outcome2 → B → A)
+    → ((a : A) (s s2 : List ℕ) → answer (seen a s s2) (beside a) ≡ a)
     → ((a : A) (s s2 : List ℕ) → seen a s s2 .first .slots ≡ s) → ((a : A) (s s2 : List ℕ) → seen a s s2 .second .slots ≡ s2)
-    → (o : Outcome2) (a a′ : A) (s s2 s′ s2′ : List ℕ) → seen a s s2 ≡ o → seen a′ s′ s2′ ≡ o → (a ≡ a′) × (s ≡ s′) × (s2 ≡ s2′)
-one-answer2 seen answer back kept kept2 o a a′ s s2 s′ s2′ p q = (
-  sym (back a s s2) ∙ ap answer (p ∙ sym q) ∙ back a′ s′ s2′,
+    → (o : Outcome2) (b : B) (a a′ : A) (s s2 s′ s2′ : List ℕ) → seen a s s2 ≡ o → seen a′ s′ s2′ ≡ o → beside a ≡ b → beside a′ ≡ b
+    → (a ≡ a′) × (s ≡ s′) × (s2 ≡ s2′)
+one-answer2 seen beside answer back kept kept2 o b a a′ s s2 s′ s2′ p q x y = (
+  sym (back a s s2) ∙ ap₂ answer (p ∙ sym q) (x ∙ sym y) ∙ back a′ s′ s2′,
   sym (kept a s s2) ∙ ap (λ o. o .first .slots) (p ∙ sym q) ∙ kept a′ s′ s2′,
   sym (kept2 a s s2) ∙ ap (λ o. o .second .slots) (p ∙ sym q) ∙ kept2 a′ s′ s2′,
 )

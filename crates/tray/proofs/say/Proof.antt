@@ -1,4 +1,4 @@
--- `say` meets its promise: with room for 23 bytes for each that is given, `feed` takes them all.
+-- `say` meets its promise: with room for 27 bytes for each that is given, `feed` takes them all.
 use borrow.Author.Needs.{needs}
 use Rattle.tray_lines.proofs.Fed.{fed-all, counted}
 use Rattle.tray.proofs.say.Statement.{statement}

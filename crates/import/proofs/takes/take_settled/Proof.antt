@@ -1,5 +1,6 @@
 -- `take_settled` meets its promise: what is told of a place lies in the text, and there are slots for the fields.
 use borrow.Author.Needs.{needs}
+use native.Mathlib.Omega.{arith}
 use Rattle.import.proofs.Fields.{place-inside-text, place-some}
 use Rattle.import.proofs.Fitting.{starts-fit, ends-fit}
 use Rattle.import.proofs.takes.take_settled.Statement.{statement}
@@ -15,7 +16,7 @@ take-settled-spec =
     (λ c κs. search needs)
     (λ c κs. search needs)
     (λ c κs. search needs)
-    (λ c κs. search needs)
+    (λ c κs. let p = c .before .before .before .before .before .before .before .before .before .before .before .before .before .before .before .before .before .before .pre in (omega arith, p .1 .0, p .1 .1, p .1 .2))
     (λ c. search needs)
     (λ c. search needs)
     (λ c. search needs)

@@ -3,7 +3,7 @@ use borrow.Author.Needs.{needs}
 use Rattle.table.specs.Does.{does}
 use Rattle.table.proofs.Laws.Valid.{state}
 use Rattle.table.proofs.Laws.Shifted.{insert-front-done, insert-back-done}
-use Rattle.ring.proofs.Told.{refusals, shown}
+use Rattle.ring.proofs.Told.{refusals, shown-lit}
 use Rattle.ring.proofs.Ring.insert.Statement.{statement}
 use Rattle.ring.proofs.Ring.insert.Tie as tie
 
@@ -19,7 +19,6 @@ insert-spec =
     (λ c. search refusals)
     (λ c κs. search needs)
     (λ c. search refusals)
-    (λ c. search needs)
     (λ c κs. omega state)
     (λ c κs. omega state)
     (λ c κs. omega state)
@@ -27,13 +26,15 @@ insert-spec =
     (λ c. search needs)
     (λ c. search needs)
     (λ c κs. search needs)
+    (λ c κs. search needs)
     (λ c. search needs)
-    (λ c. search (insert-front-done, shown))
+    (λ c. search (insert-front-done, shown-lit))
     (λ c κs. omega state)
     (λ c κs. omega state)
     (λ c. search needs)
     (λ c. search needs)
     (λ c. search needs)
     (λ c κs. search needs)
+    (λ c κs. search needs)
     (λ c. search needs)
-    (λ c. search (insert-back-done, shown)))
+    (λ c. search (insert-back-done, shown-lit)))

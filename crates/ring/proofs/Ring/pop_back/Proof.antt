@@ -3,7 +3,7 @@ use borrow.Author.Needs.{needs}
 use Rattle.table.specs.Does.{does}
 use Rattle.table.proofs.Laws.Valid.{state}
 use Rattle.table.proofs.Laws.Stores.{pop-done}
-use Rattle.ring.proofs.Told.{refusals, shown}
+use Rattle.ring.proofs.Told.{refusals, shown-lit}
 use Rattle.ring.proofs.Ring.pop_back.Statement.{statement}
 use Rattle.ring.proofs.Ring.pop_back.Tie as tie
 
@@ -26,5 +26,6 @@ pop-back-spec =
     (λ c. search needs)
     (λ c. omega state)
     (λ c κs. search needs)
+    (λ c κs. search needs)
     (λ c. search needs)
-    (λ c. search (pop-done, shown)))
+    (λ c. search (pop-done, shown-lit)))

@@ -3,7 +3,7 @@ use borrow.Author.Needs.{needs}
 use Rattle.table.specs.Does.{does}
 use Rattle.table.proofs.Laws.Valid.{state}
 use Rattle.table.proofs.Laws.Stores.{pop-front-done}
-use Rattle.ring.proofs.Told.{refusals, shown}
+use Rattle.ring.proofs.Told.{refusals, shown-lit}
 use Rattle.ring.proofs.Ring.pop_front.Statement.{statement}
 use Rattle.ring.proofs.Ring.pop_front.Tie as tie
 
@@ -25,5 +25,6 @@ pop-front-spec =
     (λ c κs. omega state)
     (λ c. omega state)
     (λ c κs. search needs)
+    (λ c κs. search needs)
     (λ c. search needs)
-    (λ c. search (pop-front-done, shown)))
+    (λ c. search (pop-front-done, shown-lit)))

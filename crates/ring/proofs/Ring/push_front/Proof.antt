@@ -3,7 +3,7 @@ use borrow.Author.Needs.{needs}
 use Rattle.table.specs.Does.{does}
 use Rattle.table.proofs.Laws.Valid.{state}
 use Rattle.table.proofs.Laws.Stores.{push-front-done}
-use Rattle.ring.proofs.Told.{refusals, shown}
+use Rattle.ring.proofs.Told.{refusals, shown-lit}
 use Rattle.ring.proofs.Ring.push_front.Statement.{statement}
 use Rattle.ring.proofs.Ring.push_front.Tie as tie
 
@@ -18,11 +18,11 @@ push-front-spec =
     (λ c. search refusals)
     (λ c κs. search needs)
     (λ c. search refusals)
-    (λ c. omega state)
     (λ c κs. omega state)
     (λ c. search needs)
     (λ c. search needs)
     (λ c. omega state)
     (λ c κs. search needs)
+    (λ c κs. search needs)
     (λ c. search needs)
-    (λ c. search (push-front-done, shown)))
+    (λ c. search (push-front-done, shown-lit)))

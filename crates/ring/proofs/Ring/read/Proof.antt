@@ -3,7 +3,7 @@ use borrow.Author.Needs.{needs}
 use Rattle.table.specs.Does.{does}
 use Rattle.table.proofs.Laws.Valid.{state}
 use Rattle.table.proofs.Laws.Looks.{read-done}
-use Rattle.ring.proofs.Told.{refusals, shown}
+use Rattle.ring.proofs.Told.{refusals, shown-lit}
 use Rattle.ring.proofs.Ring.read.Statement.{statement}
 use Rattle.ring.proofs.Ring.read.Tie as tie
 
@@ -22,4 +22,5 @@ read-spec =
     (λ c. search needs)
     (λ c. search needs)
     (λ c κs. search needs)
-    (λ c. search (read-done, shown)))
+    (λ c κs. search needs)
+    (λ c. search (read-done, shown-lit)))

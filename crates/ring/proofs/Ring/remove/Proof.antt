@@ -3,7 +3,7 @@ use borrow.Author.Needs.{needs}
 use Rattle.table.specs.Does.{does}
 use Rattle.table.proofs.Laws.Valid.{state}
 use Rattle.table.proofs.Laws.Shifted.{remove-front-done, remove-back-done}
-use Rattle.ring.proofs.Told.{refusals, shown}
+use Rattle.ring.proofs.Told.{refusals, shown-lit}
 use Rattle.ring.proofs.Ring.remove.Statement.{statement}
 use Rattle.ring.proofs.Ring.remove.Tie as tie
 
@@ -26,15 +26,17 @@ remove-spec =
     (λ c κs. omega state)
     (λ c. omega state)
     (λ c. omega state)
-    (λ c κs. omega state)
+    (λ c κs. omega state)  -- the next slot, which becomes the head
+    (λ c κs. search needs)
     (λ c κs. search needs)
     (λ c. search needs)
-    (λ c. search (remove-front-done, shown))
+    (λ c. search (remove-front-done, shown-lit))
     (λ c κs. omega state)
     (λ c κs. omega state)
     (λ c. search needs)
     (λ c. search needs)
     (λ c. omega state)
     (λ c κs. search needs)
+    (λ c κs. search needs)
     (λ c. search needs)
-    (λ c. search (remove-back-done, shown)))
+    (λ c. search (remove-back-done, shown-lit)))

@@ -10,7 +10,7 @@ use Rattle.tray_lines.proofs.feeds.feed_all.Tie as tie
 
 abbrev Inv-loop : tie.InvT-loop
 Inv-loop input out₀ s₀ at₀ i₀ out s at i =
-    (i ≤ length input) × (at ≤ 23 * i) × (length out ≡ length out₀)
+    (i ≤ length input) × (at ≤ 27 * i) × (length out ≡ length out₀)
     × (puts (feeds keeping (midway s) (drop i input)) out at ≡ puts (feeds keeping (midway s₀) input) out₀ 0)
 
 abbrev μ-loop : tie.MeasureT-loop

@@ -10,10 +10,10 @@ use Rattle.tray_lines.proofs.feeds.lay.Statement.{statement}
 use Rattle.tray_lines.proofs.feeds.lay.Tie as tie
 
 abbrev Inv-loop : tie.InvT-loop
-Inv-loop out₀ at text i₀ out i = (i ≤ 23) × (length out ≡ length out₀) × (put out (at + i) (drop i text) ≡ put out₀ at text)
+Inv-loop out₀ at text i₀ out i = (i ≤ 27) × (length out ≡ length out₀) × (put out (at + i) (drop i text) ≡ put out₀ at text)
 
 abbrev μ-loop : tie.MeasureT-loop
-μ-loop out₀ at text i₀ out i = 23 - i
+μ-loop out₀ at text i₀ out i = 27 - i
 
 pub lay-spec : {M : Type 1} → statement M
 lay-spec =

@@ -2,7 +2,7 @@
 use borrow.Author.Needs.{needs}
 use Rattle.table.specs.Does.{does}
 use Rattle.table.proofs.Laws.Shifted.{vector-insert-done}
-use Rattle.vector.proofs.Told.{refusals, shown}
+use Rattle.vector.proofs.Told.{refusals, shown-lit}
 use Rattle.vector.proofs.Vector.insert.Statement.{statement}
 use Rattle.vector.proofs.Vector.insert.Tie as tie
 
@@ -23,5 +23,6 @@ insert-spec =
     (λ c. search needs)
     (λ c. search needs)
     (λ c κs. search needs)
+    (λ c κs. search needs)
     (λ c. search needs)
-    (λ c. search (vector-insert-done, shown)))
+    (λ c. search (vector-insert-done, shown-lit)))

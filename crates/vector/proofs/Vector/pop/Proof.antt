@@ -3,7 +3,7 @@ use borrow.Author.Needs.{needs}
 use Rattle.table.specs.Does.{does}
 use Rattle.table.proofs.Laws.Valid.{state}
 use Rattle.table.proofs.Laws.Stores.{vector-pop-done}
-use Rattle.vector.proofs.Told.{refusals, shown}
+use Rattle.vector.proofs.Told.{refusals, shown-lit}
 use Rattle.vector.proofs.Vector.pop.Statement.{statement}
 use Rattle.vector.proofs.Vector.pop.Tie as tie
 
@@ -24,5 +24,6 @@ pop-spec =
     (λ c. omega state)
     (λ c. omega state)
     (λ c κs. search needs)
+    (λ c κs. search needs)
     (λ c. search needs)
-    (λ c. search (vector-pop-done, shown)))
+    (λ c. search (vector-pop-done, shown-lit)))

@@ -3,7 +3,7 @@ use borrow.Author.Needs.{needs}
 use Rattle.table.specs.Does.{does}
 use Rattle.table.proofs.Laws.Valid.{state}
 use Rattle.table.proofs.Laws.Stores.{vector-push-done}
-use Rattle.vector.proofs.Told.{refusals, shown}
+use Rattle.vector.proofs.Told.{refusals, shown-lit}
 use Rattle.vector.proofs.Vector.push.Statement.{statement}
 use Rattle.vector.proofs.Vector.push.Tie as tie
 
@@ -22,5 +22,6 @@ push-spec =
     (λ c. omega state)
     (λ c. omega state)
     (λ c κs. search needs)
+    (λ c κs. search needs)
     (λ c. search needs)
-    (λ c. search (vector-push-done, shown)))
+    (λ c. search (vector-push-done, shown-lit)))

@@ -3,7 +3,7 @@ use borrow.Author.Needs.{needs}
 use Rattle.table.specs.Does.{does}
 use Rattle.table.proofs.Laws.Valid.{state}
 use Rattle.table.proofs.Laws.Shifted.{vector-remove-done}
-use Rattle.vector.proofs.Told.{refusals, shown}
+use Rattle.vector.proofs.Told.{refusals, shown-lit}
 use Rattle.vector.proofs.Vector.remove.Statement.{statement}
 use Rattle.vector.proofs.Vector.remove.Tie as tie
 
@@ -26,5 +26,6 @@ remove-spec =
     (λ c. omega state)
     (λ c. omega state)
     (λ c κs. search needs)
+    (λ c κs. search needs)
     (λ c. search needs)
-    (λ c. search (vector-remove-done, shown)))
+    (λ c. search (vector-remove-done, shown-lit)))

@@ -5,7 +5,7 @@ use Rattle.table.specs.Does.{does}
 use Rattle.table.proofs.Laws.Valid.{state}
 use Rattle.table.proofs.Laws.VectorDone.{vector-swap-last-done}
 use Rattle.table.proofs.Laws.Shifted.{swap-done}
-use Rattle.vector.proofs.Told.{refusals, shown}
+use Rattle.vector.proofs.Told.{refusals, shown-lit}
 use Rattle.vector.proofs.Vector.swap_remove.Statement.{statement}
 use Rattle.vector.proofs.Vector.swap_remove.Tie as tie
 
@@ -26,8 +26,9 @@ swap-remove-spec =
     (λ c. omega state)
     (λ c. omega state)
     (λ c κs. search needs)
+    (λ c κs. search needs)
     (λ c. search needs)
-    (λ c. search (vector-swap-last-done, shown))
+    (λ c. search (vector-swap-last-done, shown-lit))
     (λ c. omega state)
     (λ c. omega state)
     (λ c. omega state)
@@ -35,5 +36,6 @@ swap-remove-spec =
     (λ c. omega state)
     (λ c. simp length-set (omega state))
     (λ c κs. search needs)
+    (λ c κs. search needs)
     (λ c. search needs)
-    (λ c. search (swap-done, shown)))
+    (λ c. search (swap-done, shown-lit)))

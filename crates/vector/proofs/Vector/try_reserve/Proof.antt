@@ -1,11 +1,12 @@
 -- `Vector::try_reserve` meets its promise: its row of the table is that of `reserve`.
 use borrow.Author.Needs.{needs}
 use Rattle.table.specs.Does.{does}
+use Rattle.table.specs.Reported.{reported}
 use Rattle.vector.proofs.Vector.try_reserve.Statement.{statement}
 use Rattle.vector.proofs.Vector.try_reserve.Tie as tie
 
 pub try-reserve-spec : {M : Type 1} → statement M
-unfolding does
+unfolding does reported
 try-reserve-spec =
     tie.close
     (tie.spec

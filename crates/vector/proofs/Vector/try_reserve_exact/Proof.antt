@@ -1,11 +1,12 @@
 -- `Vector::try_reserve_exact` meets its promise: its row of the table is that of `try_reserve`.
 use borrow.Author.Needs.{needs}
 use Rattle.table.specs.Does.{does}
+use Rattle.table.specs.Reported.{reported}
 use Rattle.vector.proofs.Vector.try_reserve_exact.Statement.{statement}
 use Rattle.vector.proofs.Vector.try_reserve_exact.Tie as tie
 
 pub try-reserve-exact-spec : {M : Type 1} → statement M
-unfolding does
+unfolding does reported
 try-reserve-exact-spec =
     tie.close
     (tie.spec

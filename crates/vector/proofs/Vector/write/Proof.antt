@@ -3,7 +3,7 @@ use borrow.Author.Needs.{needs}
 use Rattle.table.specs.Does.{does}
 use Rattle.table.proofs.Laws.Valid.{state}
 use Rattle.table.proofs.Laws.VectorDone.{vector-write-done}
-use Rattle.vector.proofs.Told.{refusals, shown}
+use Rattle.vector.proofs.Told.{refusals, shown-lit}
 use Rattle.vector.proofs.Vector.write.Statement.{statement}
 use Rattle.vector.proofs.Vector.write.Tie as tie
 
@@ -23,5 +23,6 @@ write-spec =
     (λ c. omega state)
     (λ c. omega state)
     (λ c κs. search needs)
+    (λ c κs. search needs)
     (λ c. search needs)
-    (λ c. search (vector-write-done, shown)))
+    (λ c. search (vector-write-done, shown-lit)))

@@ -9,7 +9,7 @@ use super::took;
 use ring::Ring;
 use vector::Vector;
 ghost use mathlib.Core.Path.{_≡_};
-ghost use Rattle.slots.specs.Layout.{ring, vector};
+ghost use Rattle.slots.specs.Layout.{ring};
 ghost use Rattle.table.specs.Calls.{look, iter, intoIter, stepFront, stepBack, peekFront, peekBack, fromIter};
 ghost use Rattle.table.specs.Does.{does};
 ghost use Rattle.ring.specs.Seen.{tray};

@@ -6,7 +6,7 @@ use Rattle.slots.specs.Lists.{tabulate}
 use Rattle.slots.specs.Count.{one, tally}
 use Rattle.slots.specs.Layout.{ring, vector, slotOf, posOf, entries, relaid}
 use Rattle.slots.specs.Moves.{moved}
-use Rattle.table.specs.Tray.{Tray, valid}
+use Rattle.table.specs.Tray.{valid}
 use Rattle.table.specs.Calls.{look, len, isEmpty, read, reserve, tryReserve, tryReserveExact, range, iter, intoIter, stepFront, stepBack, peekFront, peekBack}
 use Rattle.table.specs.Calls.{push, pushFront, pop, popFront, insert, remove, swapRemove, write, truncate, resize, clear, extend}
 use Rattle.table.specs.Does.{does}

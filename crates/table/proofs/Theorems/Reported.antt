@@ -1,18 +1,16 @@
 -- The slot that a call reports (request 10): it is one of the container's and holds exactly the entry that the call put in, read or wrote; or it held the one
 -- that the call took out. Any other call, and every refused one, reports 65,535, which is the number of no slot.
-use Prim.Native.Nat.{ℕ, suc, _+_, _-_, _%_, _≤_, _<_}
+use Prim.Native.Nat.{ℕ, _-_, _≤_, _<_}
 use mathlib.Core.Path.{_≡_, refl, sym, ap, _∙_}
-use mathlib.Core.Bool.{Bool, true, false}
-use mathlib.Core.List.{List, [], _∷_, _++_}
+use mathlib.Core.Bool.{false}
+use mathlib.Core.List.{List}
 use mathlib.Core.Logic.{_⊎_, inl, inr, ⊎-elim}
-use native.Mathlib.Nat.{mod-eq-of-lt}
 use native.Mathlib.Omega.{arith}
 use borrow.Author.Tests.{eq-eqb, ne-eqb}
-use lib.Dec.{eqb}
 use lib.ListN.{length, getD, length-set}
 use lib.Seq.{getD-set-same}
 use Rattle.slots.specs.Layout.{most, Kind, ring, vector, place, slotOf}
-use Rattle.slots.specs.Lists.{insertAt, update}
+use Rattle.slots.specs.Lists.{insertAt}
 use Rattle.slots.proofs.Words.{same?, length-insert, insert-at, insert-last}
 use Rattle.slots.proofs.Placing.{one-slot, entry}
 use Rattle.slots.proofs.Relaid.{length-relaid}

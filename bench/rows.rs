@@ -47,6 +47,7 @@ macro_rules! side {
 }
 
 const TEST: &str = "the one test before the work, which asks of a state what Rust's type has settled: one to three comparisons more";
+const READ: &str = "the one test before the work, which asks of a state what Rust's type has settled: one to three comparisons more; and the slot, which is put into the word beside the entry: a shift and an `or` (request 10)";
 const ENDS: &str = "the one test before the work, which asks of a state what Rust's type has settled: two comparisons more in each call, and two more in a push, which asks an empty ring for its head (request 03); the freed slot, which paper 01 has set to 0 and Rust leaves as it was; and the state, both words of which are written back where Rust stores what changed (on a Neoverse-N1, which loads and stores them as a pair, the largest part)";
 const REFILL: &str = "paper 01 has every freed slot hold 0: a memset for each run of slots, where Rust touches none; at 256 also where the loop of resize lies in its function; at 16 the tests of two calls";
 const APPEND: &str = "the slots that T frees are set to 0, as paper 01 has it: a memset for each run, where Rust touches none";
@@ -64,7 +65,7 @@ pub fn rows() -> Vec<Row> {
     vec![
         row!("push_back + pop_front", ENDS, theirs, Ring, [0], wrapped, |r, n, spots, k| ring_queue(r, k)),
         row!("push_front + pop_back", ENDS, theirs, Ring, [0], wrapped, |r, n, spots, k| ring_queue_back(r, k)),
-        row!("read", TEST, theirs, Ring, [0], wrapped, |r, n, spots, k| ring_read(r, n, &spots, k)),
+        row!("read", READ, theirs, Ring, [0], wrapped, |r, n, spots, k| ring_read(r, n, &spots, k)),
         row!("insert + remove", TEST, theirs, Ring, [0], wrapped, |r, n, spots, k| ring_shift(r, n, &spots, k)),
         row!("clear + resize", REFILL, theirs, Ring, [0], wrapped, |r, n, spots, k| ring_refill(r, n, k)),
         row!("append", APPEND, theirs, Rings, [], paired, |p, n, spots, k| pair_append(p, k)),

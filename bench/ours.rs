@@ -2,7 +2,7 @@
 use crate::place::{Line, Page};
 use crate::work;
 
-// An answer: the value in the low 32 bits, 16 bits that are 0, the moves in the next 12, the number in the high 4.
+// An answer: the value in the low 32 bits, the slot in the next 16, the moves in the next 12, the number in the high 4.
 type Word = u64;
 type State = [usize; 2]; // a ring's head and length
 

@@ -10,6 +10,8 @@ use Rattle.slots.specs.Layout.{Kind}
 use Rattle.table.specs.Tray.{Tray, Cursor}
 use Rattle.table.specs.Calls.{Call, Call2}
 use Rattle.table.specs.Does.{Outcome, Outcome2}
+use Rattle.vector.specs.declared.Vector.{Vector}
+use Rattle.vector.specs.Seen.{state}
 use Rattle.cursors.specs.declared.Cursor as code
 use Rattle.cursors.specs.declared.Begun.{Begun}
 use Rattle.cursors.specs.declared.Taken.{Taken}
@@ -44,12 +46,15 @@ one-begun : {k : Kind} {call : Call} {t : Tray} (r r′ : Begun) → Starts k ca
 unfolding again
 one-begun r r′ p q = ap₂ (λ (o : Outcome) n. record { number = o .number; slot = n; cursor = again (o .cursor) }) (p .row ∙ sym (q .row)) (p .slot ∙ sym (q .slot))
 
-one-into : {k : Kind} {call : Call2} {t t2 : Tray} (r r′ : Taken) (s2 s2′ : List ℕ) → Takes k call t t2 r s2 → Takes k call t t2 r′ s2′ → (r ≡ r′) × (s2 ≡ s2′)
+one-into : {k : Kind} {call : Call2} {t : Tray} {w : Vector} {z : List ℕ} (r r′ : Taken) (s2 s2′ : List ℕ) → Takes k call t w z r s2 → Takes k call t w z r′ s2′
+    → (r ≡ r′) × (s2 ≡ s2′)
 unfolding again
-one-into r r′ s2 s2′ p q = (
-  ap₂ (λ (o : Outcome2) n. record { number = o .number; slot = n; cursor = again (o .cursor); vector = record { len = o .second .len } }) (p .row ∙ sym (q .row)) (p .slot ∙ sym (q .slot)),
-  ap (λ (o : Outcome2). o .second .slots) (p .row ∙ sym (q .row)),
-)
+one-into r r′ s2 s2′ p q =
+    let rows = p .row ∙ sym (q .row) in
+    let beside = ap₂ {C = ℕ × ℕ} (λ n m. (n, m)) (p .slot ∙ sym (q .slot)) (p .total ∙ sym (q .total)) in (
+      ap₂ (λ (o : Outcome2) (b : ℕ × ℕ). record { number = o .number; slot = b .0; cursor = again (o .cursor); vector = state (o .second .len) (record { sum = b .1 }) }) rows beside,
+      ap (λ (o : Outcome2). o .second .slots) rows,
+    )
 
 -- In what follows a are the arguments, r and r′ are results, and e and e′ the arguments as they are at the return.
 module _ (κs : Lfts 1) where

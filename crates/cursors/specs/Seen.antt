@@ -7,7 +7,9 @@ use Rattle.table.specs.Tray.{Tray, Cursor}
 use Rattle.table.specs.Table.{firstInvalid, beyond, empty, numberOf}
 use Rattle.table.specs.Calls.{Call, Call2}
 use Rattle.table.specs.Does.{Outcome, Outcome2, does, does2}
+use Rattle.runs.specs.declared.total.Total.{Total}
 use Rattle.table.specs.Reported.{noSlot}
+use Rattle.table.specs.Totals.{totalSecond}
 use Rattle.vector.specs.declared.Vector.{Vector}
 use Rattle.vector.specs.Seen.{tray, state}
 use Rattle.cursors.specs.declared.Cursor as code
@@ -60,10 +62,12 @@ pub record Starts (k : Kind) (call : Call) (t : Tray) (a : Begun) : Type 0 where
   pub row : seenBegun a t ≡ does k call t
   pub slot : a .slot ≡ noSlot
 
--- The promise of from_iter on the container t and the vector T, whose slots then hold `theirs`.
-pub record Takes (k : Kind) (call : Call2) (t t2 : Tray) (a : Taken) (theirs : List ℕ) : Type 0 where
-  pub row : seenInto a t theirs ≡ does2 k vector call t t2
+-- The promise of from_iter on the container t and the vector T, whose slots held z and then hold `theirs`: the answer is the row and reports no slot, and T has
+-- the total, as it comes from the one that was given.
+pub record Takes (k : Kind) (call : Call2) (t : Tray) (second : Vector) (z : List ℕ) (a : Taken) (theirs : List ℕ) : Type 0 where
+  pub row : seenInto a t theirs ≡ does2 k vector call t (tray second z)
   pub slot : a .slot ≡ noSlot
+  pub total : a .vector .total .sum ≡ totalSecond k vector call t (tray second z) (second .total .sum)
 
 -- what the private functions `began`, `took` and `filled` answer
 abbrev pub beginning : (number back : ℕ) → Begun
@@ -72,5 +76,5 @@ beginning number back = record { number = number; slot = noSlot; cursor = record
 abbrev pub taking : ℕ → code.Cursor → Vector → Taken
 taking number u v = record { number = number; slot = noSlot; cursor = u; vector = v }
 
-abbrev pub filling : (front back count : ℕ) → Taken
-filling front back count = taking 0 (record { front = front; back = back }) (state count)
+abbrev pub filling : (front back count : ℕ) → Total → Taken
+filling front back count total = taking 0 (record { front = front; back = back }) (state count total)

@@ -2,8 +2,13 @@
 pub mod over_ring; // over_ring.rt: a cursor's calls over a ring
 pub mod over_vector; // over_vector.rt: a cursor's calls over a vector
 
+use runs::total;
+use runs::total::Total;
 use vector::Vector;
 ghost use mathlib.Core.Path.{_≡_};
+ghost use Prim.Native.Nat.{_^_, _<_};
+ghost use Rattle.slots.specs.Total.{changed};
+ghost use Rattle.runs.specs.Width.{summing};
 ghost use Rattle.cursors.specs.Seen.{beginning, taking, filling};
 
 pub struct Cursor {
@@ -47,8 +52,9 @@ fn began(number: u8, back: usize) -> Begun
     }
 }
 
+// That the total of T is one of 64 bits is said here, where the proof of a from_iter that leaves T as it was finds it.
 fn took(number: u8, cursor: Cursor, vector: Vector) -> Taken
-    ensures { λ r. ⌜ r ≡ taking number cursor vector ⌝ }
+    ensures { λ r. ⌜ (r ≡ taking number cursor vector) × (vector .total .sum < 2 ^ 64) ⌝ }
 {
     Taken {
         number,
@@ -58,9 +64,10 @@ fn took(number: u8, cursor: Cursor, vector: Vector) -> Taken
     }
 }
 
-// A from_iter that is done: the cursor afterwards, and how many entries T has.
-fn filled(front: usize, back: usize, count: usize) -> Taken
-    ensures { λ r. ⌜ r ≡ filling front back count ⌝ }
+// A from_iter that is done: the cursor afterwards, how many entries T has, the total that it came with, and what the entries add up to.
+fn filled(front: usize, back: usize, count: usize, total: Total, by: Total) -> Taken
+    ensures { λ r. ⌜ r ≡ filling front back count (summing (changed (total .sum) (by .sum) 0)) ⌝ }
 {
-    took(0, Cursor { front, back }, vector::state(count))
+    let to = vector::state(count, total::more(total, by));
+    took(0, Cursor { front, back }, to)
 }

@@ -7,13 +7,13 @@ use super::began;
 use super::filled;
 use super::took;
 use ring::Ring;
+use runs::total;
 use vector::Vector;
 ghost use mathlib.Core.Path.{_≡_};
 ghost use Rattle.slots.specs.Layout.{ring};
 ghost use Rattle.table.specs.Calls.{look, iter, intoIter, stepFront, stepBack, peekFront, peekBack, fromIter};
 ghost use Rattle.table.specs.Does.{does};
 ghost use Rattle.ring.specs.Seen.{tray};
-ghost use Rattle.vector.specs.Seen as vectors;
 ghost use Rattle.cursors.specs.Seen.{cursor, seen, Starts, Takes};
 
 impl Cursor {
@@ -130,9 +130,9 @@ impl Cursor {
         Step::Entry(slots[at], self)
     }
 
-    // The empty vector T gets the remaining entries, and the cursor ends.
+    // The empty vector T gets the remaining entries, and the cursor ends. T may come with any total, which they are added to.
     pub fn ring_from_iter(self, over: Ring, slots: &[u32], to: Vector, theirs: &mut [u32]) -> Taken
-        ensures { λ r. ⌜ Takes ring (fromIter (cursor self)) (tray over (now (slots .entry))) (vectors.tray to (now (theirs .entry))) r (now (theirs .exit)) ⌝ }
+        ensures { λ r. ⌜ Takes ring (fromIter (cursor self)) (tray over (now (slots .entry))) to (now (theirs .entry)) r (now (theirs .exit)) ⌝ }
     {
         let cap = slots.len();
         let head = over.head;
@@ -157,11 +157,12 @@ impl Cursor {
             return took(6, self, to);
         }
         if front == back {
-            return filled(back, back, 0);
+            return took(0, self, to);
         }
+        let by = total::ring(slots, head, front, back);
         let count = back - front;
         let from = slots::slot(cap, head, front);
         runs::copy::carry(theirs, 0, 0, slots, from, count);
-        filled(back, back, count)
+        filled(back, back, count, to.total, by)
     }
 }

@@ -6,6 +6,7 @@ use super::Taken;
 use super::began;
 use super::filled;
 use super::took;
+use runs::total;
 use vector::Vector;
 ghost use mathlib.Core.Path.{_≡_};
 ghost use Rattle.slots.specs.Layout.{vector};
@@ -131,7 +132,7 @@ impl Cursor {
         to: Vector,
         theirs: &mut [u32],
     ) -> Taken
-        ensures { λ r. ⌜ Takes vector (fromIter (cursor self)) (tray over (now (slots .entry))) (tray to (now (theirs .entry))) r (now (theirs .exit)) ⌝ }
+        ensures { λ r. ⌜ Takes vector (fromIter (cursor self)) (tray over (now (slots .entry))) to (now (theirs .entry)) r (now (theirs .exit)) ⌝ }
     {
         let cap = slots.len();
         let len = over.len;
@@ -154,8 +155,9 @@ impl Cursor {
         if room < back - front {
             return took(6, self, to);
         }
+        let by = total::run(slots, front, back);
         let count = back - front;
         runs::copy::run_copy(theirs, 0, &slots[front..], count);
-        filled(back, back, count)
+        filled(back, back, count, to.total, by)
     }
 }

@@ -3,6 +3,7 @@ use super::Said;
 use super::Sheet;
 use super::Spot;
 use super::Taken;
+use vector::Vector;
 ghost use mathlib.Core.Path.{_≡_};
 ghost use Prim.Native.Nat.{_≤_, _<_};
 ghost use mathlib.Core.Bool.{true};
@@ -124,6 +125,11 @@ pub(crate) fn list(
     }
 }
 
+// A vector that holds nothing.
+fn empty() -> Vector {
+    vector::state(0, runs::total::none())
+}
+
 // The record at the front of a text, by an answer on it that is settled: listed, or refused.
 pub(crate) fn take_settled(
     text: &[u8],
@@ -143,7 +149,7 @@ pub(crate) fn take_settled(
     if number != 0 {
         return refuse(text, number, at, sheet, out, said);
     }
-    let got = record::read(text, vector::state(0), slots, vector::state(0), theirs);
+    let got = record::read(text, empty(), slots, empty(), theirs);
     if got.number != 0 {
         return refuse(text, 6, 0, sheet, out, said);
     }

@@ -11,4 +11,5 @@ pub mod OnceMixed
 pub mod UpstreamRings
 pub mod UpstreamVectors
 pub mod Same
+pub mod Sums
 pub mod Home

@@ -7,6 +7,7 @@ use Rattle.table.specs.Tray.{nowhere}
 use Rattle.table.specs.Calls.{Call2}
 use Rattle.table.specs.Does.{Outcome2, does2}
 use Rattle.table.specs.Reported.{noSlot}
+use Rattle.table.specs.Totals.{totalFirst, totalSecond}
 use Rattle.vector.specs.declared.Vector.{Vector}
 use Rattle.vector.specs.Seen.{tray}
 use Rattle.pairs.specs.declared.vectors.Both.{Both}
@@ -21,11 +22,13 @@ seen2 a slots theirs = record {
   cursor = nowhere;
 }
 
--- The promise of a call on the first, whose slots held s, and on T, whose slots held z: its answer a and what the slots hold afterwards are its row, and it reports
--- no slot.
+-- The promise of a call on the first, whose slots held s, and on T, whose slots held z: its answer a and what the slots hold afterwards are its row; it reports
+-- no slot, and each state has the total, as it comes from the one that was given.
 pub record Meets (call : Call2) (first : Vector) (s : List ℕ) (second : Vector) (z : List ℕ) (a : Both) (s′ z′ : List ℕ) : Type 0 where
   pub row : seen2 a s′ z′ ≡ does2 vector vector call (tray first s) (tray second z)
   pub slot : a .slot ≡ noSlot
+  pub total : a .first .total .sum ≡ totalFirst vector vector call (tray first s) (tray second z) (first .total .sum)
+  pub total2 : a .second .total .sum ≡ totalSecond vector vector call (tray first s) (tray second z) (second .total .sum)
 
 -- what the function `says` puts together
 abbrev pub says : (number value : ℕ) → (first second : Vector) → Both

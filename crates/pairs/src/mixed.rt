@@ -2,6 +2,7 @@
 use ring::Ring;
 use vector::Vector;
 ghost use mathlib.Core.Path.{_≡_};
+ghost use Prim.Native.Nat.{_^_, _<_};
 ghost use Rattle.table.specs.Calls.{same};
 ghost use Rattle.pairs.specs.Mixed.{Meets, says};
 
@@ -37,9 +38,9 @@ pub fn same_as_vector(first: Ring, slots: &[u32], second: Vector, theirs: &[u32]
     says(0, 0, first, second)
 }
 
-// Every answer is put together here: a comparison leaves both states, done or refused.
+// Every answer is put together here: a comparison leaves both states, done or refused. Their totals have 64 bits, which a proof would have to look far for.
 fn says(number: u8, value: u32, first: Ring, second: Vector) -> Both
-    ensures { λ r. ⌜ r ≡ says number value first second ⌝ }
+    ensures { λ r. ⌜ (r ≡ says number value first second) × (first .total .sum < 2 ^ 64) × (second .total .sum < 2 ^ 64) ⌝ }
 {
     Both {
         number,

@@ -12,6 +12,7 @@ pub mod Laying
 pub mod Placing
 pub mod Inside
 pub mod Order
+pub mod Summing
 pub mod Saying
 pub mod Undoing
 pub mod Kept

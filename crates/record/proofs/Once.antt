@@ -3,10 +3,13 @@
 use mathlib.Core.Path.{_≡_, refl, sym, ap, _∙_}
 use contract.Lifetimes.{Lfts}
 use denote.Ref.{now}
+use Prim.Native.Nat.{ℕ}
 use Rattle.slots.proofs.Twice.{Twice}
+use Rattle.table.specs.Reported.{noSlot}
 use Rattle.table.proofs.Theorems.Unique.{one-answer2}
-use Rattle.vector.specs.Seen.{state}
+use Rattle.vector.specs.Seen.{tray, state}
 use Rattle.pairs.specs.Vectors.{seen2}
+use Rattle.record.specs.Recorded.{totalStarts, totalEnds}
 use Rattle.record.specs.Unquoted.{Unquoted}
 use Rattle.record.proofs.read as read·fn
 use Rattle.record.proofs.read.Reads as read·reads
@@ -18,8 +21,11 @@ use Rattle.record.proofs.texts as texts
 module _ (κs : Lfts 3) where
   pub read-once : Twice read·fn.ended κs (read·reads.Learnt κs) (λ r e r′ e′. (r ≡ r′) × (now (e .1 .1 .0) ≡ now (e′ .1 .1 .0)) × (now (e .1 .1 .1 .1 .0) ≡ now (e′ .1 .1 .1 .1 .0)))
   read-once a r r′ e e′ p q =
-      one-answer2 seen2 (λ r. r .slot) (λ o n. record { number = o .number; value = o .value; moves = o .moves; slot = n; first = state (o .first .len); second = state (o .second .len) })
-      (λ r s s2. refl) (λ r s s2. refl) (λ r s s2. refl) _ _ r r′ _ _ _ _ (p .row) (q .row) (p .slot) (q .slot)
+      let t = tray (a .1 .0) (now (a .1 .1 .0)) in
+      let t2 = tray (a .1 .1 .1 .0) (now (a .1 .1 .1 .1 .0)) in
+      one-answer2 {B = ℕ × ℕ × ℕ} seen2 (λ r. (r .slot, r .first .total .sum, r .second .total .sum)) (λ o b. record { number = o .number; value = o .value; moves = o .moves; slot = b .0; first = state (o .first .len) (record { sum = b .1 }); second = state (o .second .len) (record { sum = b .2 }) })
+      (λ r s s2. refl) (λ r s s2. refl) (λ r s s2. refl) _
+      (noSlot, totalStarts (now (a .0)) t t2 (a .1 .0 .total .sum), totalEnds (now (a .0)) t t2 (a .1 .1 .1 .0 .total .sum)) r r′ _ _ _ _ (p .row) (q .row) (cc (p .slot, p .total, p .total2)) (cc (q .slot, q .total, q .total2))
 
 module _ (κs : Lfts 1) where
   pub judge-once : Twice judge·fn.ended κs (judge·reads.Learnt κs) (λ r e r′ e′. r ≡ r′)

@@ -6,7 +6,8 @@ use mathlib.Core.List.{List, [], _∷_, _++_}
 use lib.Dec.{eqb, ltb}
 use lib.ListN.{length}
 use Rattle.slots.specs.Layout.{Kind, ring, vector}
-use Rattle.table.specs.Tray.{Tray, cap, valid, nowhere}
+use Rattle.slots.specs.Total.{totalled}
+use Rattle.table.specs.Tray.{Tray, cap, list, valid, nowhere}
 use Rattle.table.specs.Table.{holding}
 use Rattle.table.specs.Does.{Outcome2, refused2, relay}
 use Rattle.table.specs.Reported.{noSlot}
@@ -69,11 +70,21 @@ records text t t2 =
     (earlyTests (cap t) (t .len) (cap t2) (t2 .len) (length text) ++ lateTests text (cap t) (cap t2))
     (places text t t2)
 
+-- The total n of the vector that the starts go on, once the text was read or refused, and of the one that the ends go on (request 04): read off its list before and
+-- after, as `table/Totals` has it of a call on two.
+unfoldable pub totalStarts : (text : List ℕ) (t t2 : Tray) → (n : ℕ) → ℕ
+totalStarts text t t2 n = totalled n (list vector t) (list vector (records text t t2 .first))
+
+unfoldable pub totalEnds : (text : List ℕ) (t t2 : Tray) → (n : ℕ) → ℕ
+totalEnds text t t2 n = totalled n (list vector t2) (list vector (records text t t2 .second))
+
 -- The promise of `read` on a text and two vectors whose slots held s and z: its answer a and what the slots hold afterwards. It
--- reports no slot.
+-- reports no slot, and each state has the total, as it comes from the one that was given.
 pub record Records (text : List ℕ) (first : Vector) (s : List ℕ) (second : Vector) (z : List ℕ) (a : Both) (s′ z′ : List ℕ) : Type 0 where
   pub row : seen2 a s′ z′ ≡ records text (tray first s) (tray second z)
   pub slot : a .slot ≡ noSlot
+  pub total : a .first .total .sum ≡ totalStarts text (tray first s) (tray second z) (first .total .sum)
+  pub total2 : a .second .total .sum ≡ totalEnds text (tray first s) (tray second z) (second .total .sum)
 
 -- The call as demand 3 takes it: of two vectors, and the starts and ends enter.
 abbrev pub twoVectors : (k k2 : Kind) → Bool

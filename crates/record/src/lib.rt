@@ -1,5 +1,6 @@
 // Records of comma-separated text (RFC 4180, section 2), read from a lent text: where each field starts and ends goes on two vectors.
 pub mod texts; // texts.rt: the calls on a text alone
+mod answers; // answers.rt: the answers on two vectors, and what a record that is read writes
 
 use pairs::vectors::Both;
 use vector::Vector;
@@ -8,8 +9,6 @@ ghost use Prim.Native.Nat.{_+_, _≤_, _<_};
 ghost use lib.ListN.{length, take, drop, set};
 ghost use lib.Seq.{sets};
 ghost use Rattle.record.specs.Scan.{special, starts, scanned};
-ghost use Rattle.vector.specs.Seen.{state};
-ghost use Rattle.pairs.specs.Vectors.{says};
 ghost use Rattle.record.specs.Places.{firsts, lasts};
 ghost use Rattle.record.specs.Steps.{run, any, isQuote, bodyRun, fieldAt, stopOf, numberOf, comesTo, tally, Judged};
 ghost use Rattle.record.specs.Recorded.{longest, early, Records};
@@ -336,16 +335,26 @@ fn settle(
     let number = v.number;
     let count = v.count;
     if number != 0 {
-        return says(number, 0, first, second);
+        return answers::refused(number, first, second);
     }
     if slots.len() < count {
-        return says(6, 0, first, second);
+        return answers::refused(6, first, second);
     }
     if theirs.len() < count {
-        return says(6, 0, first, second);
+        return answers::refused(6, first, second);
     }
-    place(text, count, begins, ends, slots, theirs);
-    done(v.at as u32, count)
+    let at = v.at as u32;
+    answers::enter(
+        text,
+        at,
+        count,
+        begins,
+        ends,
+        first.total,
+        slots,
+        second.total,
+        theirs,
+    )
 }
 
 // The record at the start of a text: where its fields start goes on the first vector, where they end on the second. The first sixteen places are
@@ -361,31 +370,10 @@ pub fn read(
 {
     let early = refusal(slots.len(), first.len, theirs.len(), second.len, text.len());
     if early != 0 {
-        return says(early, 0, first, second);
+        return answers::refused(early, first, second);
     }
     let mut begins = [0u32; 16];
     let mut ends = [0u32; 16];
     let v = pass(text, &mut begins, &mut ends);
     settle(text, v, &begins, &ends, first, slots, second, theirs)
-}
-
-// Every answer on two vectors is put together here.
-fn says(number: u8, value: u32, first: Vector, second: Vector) -> Both
-    ensures { λ r. ⌜ r ≡ says number value first second ⌝ }
-{
-    Both {
-        number,
-        value,
-        moves: 0,
-        slot: slots::NO_SLOT,
-        first,
-        second,
-    }
-}
-
-// A call that is done, with as many numbers on each.
-fn done(value: u32, count: usize) -> Both
-    ensures { λ r. ⌜ r ≡ says 0 value (state count) (state count) ⌝ }
-{
-    says(0, value, vector::state(count), vector::state(count))
 }

@@ -34,7 +34,7 @@ impl Desk {
     }
 
     pub(crate) fn after_vector(mut self, a: vector::Answer) -> Did {
-        self.first = ring::state(0, a.vector.len);
+        self.first = crate::desks::ring(a.vector);
         self.did(a.number, a.value, a.moves, a.slot)
     }
 
@@ -47,22 +47,22 @@ impl Desk {
     }
 
     pub(crate) fn after_vectors(mut self, a: pairs::vectors::Both) -> Did {
-        self.first = ring::state(0, a.first.len);
-        self.second = ring::state(0, a.second.len);
+        self.first = crate::desks::ring(a.first);
+        self.second = crate::desks::ring(a.second);
         self.did(a.number, a.value, a.moves, a.slot)
     }
 
     pub(crate) fn after_mixed(mut self, a: pairs::mixed::Both) -> Did {
         let first = a.first;
         self.first = first;
-        self.second = ring::state(0, a.second.len);
+        self.second = crate::desks::ring(a.second);
         self.did(a.number, a.value, a.moves, a.slot)
     }
 
     // A part bears no number and reports no slot: its length stands as the value, and a line for each entry is in the text.
     pub(crate) fn after_part(mut self, count: usize) -> Did {
         let n = crate::desks::least(count, 4200);
-        self.first = ring::state(0, self.first.len);
+        self.first = ring::state(0, self.first.len, self.first.total);
         let mut did = self.did(0, n as u32, 0, slots::NO_SLOT);
         did.shown = 9 * n;
         did
@@ -91,7 +91,7 @@ impl Desk {
 
     pub(crate) fn after_taken(mut self, t: Taken) -> Did {
         let cursor = t.cursor;
-        self.second = ring::state(0, t.vector.len);
+        self.second = crate::desks::ring(t.vector);
         self.after_walk(t.number, 0, t.slot, cursor)
     }
 }

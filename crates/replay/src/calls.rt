@@ -140,7 +140,7 @@ fn over_vector(op: u64, k: usize, mut desk: Desk, slots: &[u32], theirs: &mut [u
     let over = crate::desks::vector(desk.first);
     let by = desk.cursor;
     let to = crate::desks::vector(desk.second);
-    desk.first = ring::state(0, over.len);
+    desk.first = crate::desks::ring(over);
     match op {
         0x70 => desk.after_begun(Cursor::vector_iter(over, slots)),
         0x71 => desk.after_begun(Cursor::vector_into_iter(over, slots)),

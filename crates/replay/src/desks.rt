@@ -2,10 +2,11 @@
 use crate::lines::Asked;
 use cursors::Cursor;
 use ring::Ring;
+use runs::total;
 use vector::Vector;
 ghost use Prim.Native.Nat.{_≤_};
 
-// How many of the lent slots each container has, the containers, and the cursor. A vector is its length, with head 0.
+// How many of the lent slots each container has, the containers with their totals, and the cursor. A vector is its length and its total, with head 0.
 pub(crate) struct Desk {
     pub(crate) cap: usize,
     pub(crate) cap2: usize,
@@ -15,7 +16,16 @@ pub(crate) struct Desk {
 }
 
 pub(crate) fn vector(of: Ring) -> Vector {
-    vector::state(of.len)
+    vector::state(of.len, of.total)
+}
+
+pub(crate) fn ring(of: Vector) -> Ring {
+    ring::state(0, of.len, of.total)
+}
+
+// A container without entries.
+fn empty() -> Ring {
+    ring::state(0, 0, total::none())
 }
 
 fn cursor(front: usize, back: usize) -> Cursor {
@@ -27,8 +37,8 @@ pub(crate) fn cleared() -> Desk {
     Desk {
         cap: 0,
         cap2: 0,
-        first: ring::state(0, 0),
-        second: ring::state(0, 0),
+        first: empty(),
+        second: empty(),
         cursor: cursor(0, 0),
     }
 }
@@ -62,25 +72,27 @@ pub(crate) fn lay(slots: &mut [u32], at: usize, x: u32) {
     }
 }
 
-// Operations 01 to 07: lines.rt lets no other through.
+// Operations 01 to 09: lines.rt lets no other through.
 pub(crate) fn place(q: Asked, mut desk: Desk, first: &mut [u32], second: &mut [u32]) -> Desk {
     let op = q.op;
     match op {
         0x01 => {
             bare(first);
             desk.cap = q.a;
-            desk.first = ring::state(0, 0);
+            desk.first = empty();
         }
-        0x02 => desk.first = ring::state(q.a, q.b),
+        0x02 => desk.first = ring::state(q.a, q.b, desk.first.total),
         0x03 => lay(first, q.a, q.x),
         0x04 => {
             bare(second);
             desk.cap2 = q.a;
-            desk.second = ring::state(0, 0);
+            desk.second = empty();
         }
-        0x05 => desk.second = ring::state(q.a, q.b),
+        0x05 => desk.second = ring::state(q.a, q.b, desk.second.total),
         0x06 => lay(second, q.a, q.x),
-        _ => desk.cursor = cursor(q.a, q.b), // 07
+        0x07 => desk.cursor = cursor(q.a, q.b),
+        0x08 => desk.first.total.sum = q.a as u64,
+        _ => desk.second.total.sum = q.a as u64, // 09
     }
     desk
 }

@@ -26,7 +26,7 @@ pub(crate) enum Verdict {
 fn known(op: u64) -> bool
     ensures { λ r. ⌜ r ≡ isKnown op ⌝ }
 {
-    ((0x01 <= op) & (op <= 0x07))
+    ((0x01 <= op) & (op <= 0x09))
         | ((0x10 <= op) & (op <= 0x1e))
         | ((0x20 <= op) & (op <= 0x33))
         | ((0x38 <= op) & (op <= 0x3d))

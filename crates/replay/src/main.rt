@@ -29,7 +29,7 @@ fn call(q: Asked, desk: Desk, first: &mut [u32], second: &mut [u32], out: &mut [
     let cap2 = desks::count(desk.cap2, second.len());
     let slots = &mut first[0..cap];
     let theirs = &mut second[0..cap2];
-    let at = desks::least(136 + 9 * cap + 9 * cap2, out.len());
+    let at = desks::least(170 + 9 * cap + 9 * cap2, out.len());
     let did = calls::call(q, desk, slots, theirs, &mut out[at..]);
     let left = did.desk;
     let shown = did.shown;
@@ -148,6 +148,6 @@ fn main() {
     let mut line = [0u8; 35]; // one byte above 34 tells that a line is too long
     let mut first = [0u32; 4200];
     let mut second = [0u32; 4200];
-    let mut out = [0u8; 115737]; // the answer line of 136, 9 bytes for each of 4,200 slots twice, a text of 40,000 and its LF
+    let mut out = [0u8; 115771]; // the answer line of 170, 9 bytes for each of 4,200 slots twice, a text of 40,000 and its LF
     run(&mut line, &mut first, &mut second, &mut out);
 }

@@ -1,4 +1,4 @@
-// What is printed of a call: its answer with both containers, the cursor and the slot that it reports in one line, then a line for each slot. What
+// What is printed of a call: its answer with both containers, the cursor, the slot that it reports and both totals in one line, then a line for each slot. What
 // would not fit into the text is left out, so that nothing is asked of a caller; `main` lends enough for the largest desk.
 use crate::answers::Did;
 use crate::desks::Desk;
@@ -53,13 +53,19 @@ fn put_desk(out: &mut [u8], from: usize, desk: Desk) -> usize {
     put_two(out, at, cursor.front, cursor.back, b' ')
 }
 
+fn put_totals(out: &mut [u8], at: usize, desk: Desk) -> usize {
+    let next = put_word(out, at, 16, desk.first.total.sum, b' ');
+    put_word(out, next, 16, desk.second.total.sum, b'\n')
+}
+
 // All of it. Four digits say a slot; the low ones of a larger number, which no call may report, would pass for another, so that it is shown as fffe.
 pub(crate) fn print(did: Did, slots: &[u32], theirs: &[u32], out: &mut [u8]) {
     let desk = did.desk;
     let slot = if 0xffff < did.slot { 0xfffe } else { did.slot };
     let mut at = put_answer(out, did);
     at = put_desk(out, at, desk);
-    at = put_word(out, at, 4, slot as u64, b'\n');
+    at = put_word(out, at, 4, slot as u64, b' ');
+    at = put_totals(out, at, desk);
     at = put_slots(out, at, slots);
     put_slots(out, at, theirs);
 }

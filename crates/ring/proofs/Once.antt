@@ -19,18 +19,20 @@ use Rattle.ring.proofs.refused as refused·fn
 use Rattle.ring.proofs.shows as shows·fn
 use Rattle.ring.proofs.done as done·fn
 
--- an answer is told by what is seen of it and by the slot that it reports
-told-by : (o : Outcome) (n : ℕ) (r r′ : Answer) (s s′ : List ℕ) → seen r s ≡ o → seen r′ s′ ≡ o → r .slot ≡ n → r′ .slot ≡ n → (r ≡ r′) × (s ≡ s′)
-told-by =
-    one-answer seen (λ r. r .slot) (λ o n. record { number = o .number; value = o .value; moves = o .moves; slot = n; ring = state (o .tray .head) (o .tray .len) })
-    (λ r s. refl) (λ r s. refl)
+-- an answer is told by what is seen of it, by the slot that it reports and by the total
+told-by : (o : Outcome) (n m : ℕ) (r r′ : Answer) (s s′ : List ℕ) → seen r s ≡ o → seen r′ s′ ≡ o → r .slot ≡ n → r′ .slot ≡ n → r .ring .total .sum ≡ m → r′ .ring .total .sum ≡ m
+    → (r ≡ r′) × (s ≡ s′)
+told-by o n m r r′ s s′ e e′ slot slot′ sum sum′ =
+    one-answer {B = ℕ × ℕ} seen (λ r. (r .slot, r .ring .total .sum))
+    (λ o b. record { number = o .number; value = o .value; moves = o .moves; slot = b .0; ring = state (o .tray .head) (o .tray .len) (record { sum = b .1 }) })
+    (λ r s. refl) (λ r s. refl) o (n, m) r r′ s s′ e e′ (cc) (cc)
 
 -- every promise of this crate is `Meets`, a making's `Makes`
 one : {call : Call} {v : Ring} {b : List ℕ} (r r′ : Answer) (s s′ : List ℕ) → Meets call v b r s → Meets call v b r′ s′ → (r ≡ r′) × (s ≡ s′)
-one r r′ s s′ p q = told-by _ _ r r′ s s′ (p .row) (q .row) (p .slot) (q .slot)
+one r r′ s s′ p q = told-by _ _ _ r r′ s s′ (p .row) (q .row) (p .slot) (q .slot) (p .total) (q .total)
 
 one-made : {m : Making} {b : List ℕ} (r r′ : Answer) (s s′ : List ℕ) → Makes m b r s → Makes m b r′ s′ → (r ≡ r′) × (s ≡ s′)
-one-made r r′ s s′ p q = told-by _ _ r r′ s s′ (p .row) (q .row) (p .slot) (q .slot)
+one-made r r′ s s′ p q = told-by _ _ _ r r′ s s′ (p .row) (q .row) (p .slot) (q .slot) (p .total) (q .total)
 
 -- In what follows a are the arguments, r and r′ are results, and e and e′ the arguments as they are at the return.
 module _ (κs : Lfts 1) where

@@ -1,15 +1,20 @@
 // A ring of entries in lent slots. Each call's promise is its row of the table: what is seen of it is what the table says.
+use runs::total;
+use runs::total::Total;
 ghost use mathlib.Core.Path.{_≡_};
 ghost use Rattle.table.specs.Calls.{new, withCapacity, look, len, read, reserve};
 ghost use Rattle.table.specs.Calls.{write, push, pushFront, pop, popFront, insert, remove, truncate, resize, clear};
 ghost use Rattle.slots.specs.Layout.{ring};
+ghost use Rattle.slots.specs.Total.{changed};
+ghost use Rattle.runs.specs.Width.{summing};
 ghost use Rattle.table.specs.Does.{headAfter};
 ghost use Rattle.ring.specs.Seen.{Meets, Makes, state, says, lit};
 
-// The state: the slot of position 0, and how many entries there are.
+// The state: the slot of position 0, how many entries there are, and what they add up to, if the first total was right.
 pub struct Ring {
     pub head: usize,
     pub len: usize,
+    pub total: Total,
 }
 
 // What a call answers, with the slot of the entry concerned and the state afterwards.
@@ -27,21 +32,21 @@ impl Ring {
     {
         let cap = slots.len();
         if slots::MOST < cap {
-            return refused(1, state(0, 0));
+            return refused(1, state(0, 0, total::none()));
         }
-        done(0, 0, 0, 0)
+        done(0, 0, 0, 0, total::none())
     }
 
     pub fn with_capacity(slots: &[u32], k: usize) -> Answer
         ensures { λ r. ⌜ Makes (withCapacity k) (now (slots .entry)) r (now (slots .entry)) ⌝ }
     {
         if slots::MOST < slots.len() {
-            return refused(1, state(0, 0));
+            return refused(1, state(0, 0, total::none()));
         }
         if slots.len() < k {
-            return refused(6, state(0, 0));
+            return refused(6, state(0, 0, total::none()));
         }
-        done(0, 0, 0, 0)
+        done(0, 0, 0, 0, total::none())
     }
 
     pub fn len(self, slots: &[u32]) -> Answer
@@ -103,7 +108,8 @@ impl Ring {
         let at = slots::slot(cap, head, i);
         let old = slots[at];
         slots[at] = x;
-        lit(at, shows(old, self))
+        let total = total::traded(self.total, x, old);
+        lit(at, done(old, 0, head, len, total))
     }
 
     pub fn push_back(self, slots: &mut [u32], x: u32) -> Answer
@@ -120,7 +126,7 @@ impl Ring {
         }
         let at = slots::slot(cap, head, len);
         slots[at] = x;
-        lit(at, done(0, 0, head, len + 1))
+        lit(at, entered(x, 0, head, len + 1, self.total))
     }
 
     pub fn push_front(self, slots: &mut [u32], x: u32) -> Answer
@@ -137,7 +143,7 @@ impl Ring {
         }
         let first = slots::one_back(cap, head); // of an empty ring too, whose head is 0
         slots[first] = x;
-        lit(first, done(0, 0, first, len + 1))
+        lit(first, entered(x, 0, first, len + 1, self.total))
     }
 
     pub fn pop_back(self, slots: &mut [u32]) -> Answer
@@ -155,7 +161,7 @@ impl Ring {
         let at = slots::slot(cap, head, len - 1);
         let old = slots[at];
         slots[at] = 0;
-        lit(at, took(old, 0, head, len - 1))
+        lit(at, took(old, 0, head, len - 1, self.total))
     }
 
     pub fn pop_front(self, slots: &mut [u32]) -> Answer
@@ -173,7 +179,7 @@ impl Ring {
         let old = slots[head];
         slots[head] = 0;
         let front = slots::one_on(cap, head);
-        lit(head, took(old, 0, front, len - 1))
+        lit(head, took(old, 0, front, len - 1, self.total))
     }
 
     // The fewer entries are carried: those before i, or those from i on.
@@ -197,12 +203,12 @@ impl Ring {
             runs::shift_down(slots, front, 0, i);
             let at = slots::slot(cap, front, i);
             slots[at] = x;
-            return lit(at, done(0, i, front, len + 1));
+            return lit(at, entered(x, i, front, len + 1, self.total));
         }
         runs::shift_up(slots, head, i, len);
         let at = slots::slot(cap, head, i);
         slots[at] = x;
-        lit(at, done(0, len - i, head, len + 1))
+        lit(at, entered(x, len - i, head, len + 1, self.total))
     }
 
     // The fewer entries are carried: those before i, or those after. Where those before i are fewer, some are left.
@@ -225,12 +231,12 @@ impl Ring {
             runs::shift_up(slots, head, 0, i);
             slots[head] = 0;
             let front = slots::one_on(cap, head);
-            return lit(at, done(old, i, front, last));
+            return lit(at, took(old, i, front, last, self.total));
         }
         runs::shift_down(slots, head, i, last);
         let freed = slots::slot(cap, head, last);
         slots[freed] = 0;
-        lit(at, took(old, last - i, head, last))
+        lit(at, took(old, last - i, head, last, self.total))
     }
 
     // A ring on no slots has no slot for its head: where there is nothing to fill, here and below, that is a return of its own.
@@ -246,8 +252,9 @@ impl Ring {
         if len <= k {
             return shows(0, self);
         }
+        let total = total::less(self.total, total::ring(slots, head, k, len));
         runs::fill(slots, head, k, len, 0); // a free slot keeps what it held
-        took(0, 0, head, k)
+        cut(head, k, total)
     }
 
     pub fn resize(self, slots: &mut [u32], k: usize, x: u32) -> Answer
@@ -263,12 +270,14 @@ impl Ring {
             return refused(6, self);
         }
         if k < len {
+            let total = total::less(self.total, total::ring(slots, head, k, len));
             runs::fill(slots, head, k, len, 0);
-            return took(0, 0, head, k);
+            return cut(head, k, total);
         }
         if len < k {
+            let total = total::more(self.total, total::times(k - len, x));
             runs::fill(slots, head, len, k, x);
-            return done(0, 0, head, k);
+            return done(0, 0, head, k, total);
         }
         shows(0, self)
     }
@@ -283,28 +292,29 @@ impl Ring {
             return refused(1, self);
         }
         if len == 0 {
-            return done(0, 0, 0, 0);
+            return shows(0, self);
         }
+        let total = total::less(self.total, total::ring(slots, head, 0, len));
         runs::fill(slots, head, 0, len, 0);
-        done(0, 0, 0, 0)
+        done(0, 0, 0, 0, total)
     }
 }
 
-// The state with this head and length: every state of a ring is put together here.
-pub fn state(head: usize, len: usize) -> Ring
-    ensures { λ r. ⌜ r ≡ state head len ⌝ }
+// The state with this head, length and total: every state of a ring is put together here.
+pub fn state(head: usize, len: usize, total: Total) -> Ring
+    ensures { λ r. ⌜ r ≡ state head len total ⌝ }
 {
-    Ring { head, len }
+    Ring { head, len, total }
 }
 
 // The state of a ring that entries were taken out of: where none is left it starts at slot 0.
-pub fn left(head: usize, len: usize) -> Ring
-    ensures { λ r. ⌜ r ≡ state (headAfter ring len head) len ⌝ }
+pub fn left(head: usize, len: usize, total: Total) -> Ring
+    ensures { λ r. ⌜ r ≡ state (headAfter ring len head) len total ⌝ }
 {
     if len == 0 {
-        return state(0, 0);
+        return state(0, 0, total);
     }
-    state(head, len)
+    state(head, len, total)
 }
 
 // Every answer is put together here.
@@ -348,16 +358,30 @@ pub fn shows(value: u32, ring: Ring) -> Answer
     says(0, value, 0, ring)
 }
 
-// A call that is done, with the head and the length afterwards.
-pub fn done(value: u32, moves: usize, head: usize, len: usize) -> Answer
-    ensures { λ r. ⌜ r ≡ says 0 value moves (state head len) ⌝ }
+// A call that is done, with the state afterwards.
+pub fn done(value: u32, moves: usize, head: usize, len: usize, total: Total) -> Answer
+    ensures { λ r. ⌜ r ≡ says 0 value moves (state head len total) ⌝ }
 {
-    says(0, value, moves, state(head, len))
+    says(0, value, moves, state(head, len, total))
 }
 
-// A call that is done and has taken entries out, perhaps the last.
-fn took(value: u32, moves: usize, head: usize, len: usize) -> Answer
-    ensures { λ r. ⌜ r ≡ says 0 value moves (state (headAfter ring len head) len) ⌝ }
+// A call that is done and has put x in.
+fn entered(x: u32, moves: usize, head: usize, len: usize, total: Total) -> Answer
+    ensures { λ r. ⌜ r ≡ says 0 0 moves (state head len (summing (changed (total .sum) x 0))) ⌝ }
 {
-    says(0, value, moves, left(head, len))
+    done(0, moves, head, len, total::put(total, x))
+}
+
+// A call that is done and hands out the entry that it took, perhaps the last.
+fn took(x: u32, moves: usize, head: usize, len: usize, total: Total) -> Answer
+    ensures { λ r. ⌜ r ≡ says 0 x moves (state (headAfter ring len head) len (summing (changed (total .sum) 0 x))) ⌝ }
+{
+    says(0, x, moves, left(head, len, total::took(total, x)))
+}
+
+// A call that is done and has dropped entries, perhaps all.
+fn cut(head: usize, len: usize, total: Total) -> Answer
+    ensures { λ r. ⌜ r ≡ says 0 0 0 (state (headAfter ring len head) len total) ⌝ }
+{
+    says(0, 0, 0, left(head, len, total))
 }

@@ -149,7 +149,7 @@ entries-parted place p p2 n g s u u2 le near far =
     (below? j g))
 
 -- a part's, cut at g
-part-parted : (n g : ℕ) (s : List ℕ) → g ≤ n → n ≤ length s → entries itself n s ≡ entries itself g s ++ entries itself (n - g) (from-on g s)
+pub part-parted : (n g : ℕ) (s : List ℕ) → g ≤ n → n ≤ length s → entries itself n s ≡ entries itself g s ++ entries itself (n - g) (from-on g s)
 part-parted n g s le fits = entries-parted itself itself itself n g s s (from-on g s) le (λ j h. refl) (λ j h. sym (getD-on g s j (omega arith)))
 
 -- a ring's, cut at g: the rest are those of a ring whose head is that position's slot
@@ -161,12 +161,12 @@ module _ (h n : ℕ) (s : List ℕ) (inside : h ≤ length s) (fits : n ≤ leng
   near j lt = ap (λ i. getD s i 0) (slot-near (length s) h j (omega arith)) ∙ sym (getD-on h s j lt)
 
   -- a ring's that reach no further than the last slot, and those that do
-  ring-straight : n ≤ length s - h → entries (slotOf (length s) h) n s ≡ entries itself n (from-on h s)
+  pub ring-straight : n ≤ length s - h → entries (slotOf (length s) h) n s ≡ entries itself n (from-on h s)
   ring-straight le =
       ext-getD 0 _ _ (length-entries _ n s ∙ sym (length-entries itself n (from-on h s)))
       (λ j g. let lt : j < n = (rw (length-entries _ n s) at g) in entry _ n s j lt ∙ near j (omega arith) ∙ sym (entry itself n (from-on h s) j lt))
 
-  ring-around : length s - h < n → entries (slotOf (length s) h) n s ≡ entries itself (length s - h) (from-on h s) ++ entries itself (n - (length s - h)) s
+  pub ring-around : length s - h < n → entries (slotOf (length s) h) n s ≡ entries itself (length s - h) (from-on h s) ++ entries itself (n - (length s - h)) s
   ring-around past =
       entries-parted (slotOf (length s) h) itself itself n (length s - h) s (from-on h s) s (omega arith) near
       (λ j lt. ap (λ i. getD s i 0) (slot-far (length s) h (length s - h + j) j (omega arith) (omega arith)))

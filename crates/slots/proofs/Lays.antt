@@ -179,6 +179,14 @@ entries-rest c h n i s fits =
     sym (take-all (n - i) (drop i (entries (slotOf c h) n s)) (simp (length-drop, length-entries) (omega arith))) ∙ entries-part c h n i (n - i) s (omega arith)
 
 -- with head 0 a ring's position is its slot, as a vector's is
+-- what is laid from another ring's positions from i up to n, the first of which stands in slot a; and where these are all of them
+pub lay-from : (place : ℕ → ℕ) (at c h i n a : ℕ) (s old new : List ℕ) → i ≤ n → a ≡ slotOf c h i → Laid place at (n - i) (entries (slotOf c a) (n - i) s) old new
+    → Laid place at (n - i) (drop i (entries (slotOf c h) n s)) old new
+lay-from place at c h i n a s old new le e m = rw (entries-rest c h n i s le, ← e) m
+
+pub lay-all : (place : ℕ → ℕ) (at n : ℕ) (s old new : List ℕ) → Laid place at (n - 0) s old new → Laid place at n s old new
+lay-all place at n s old new m = let all : n - 0 ≡ n = omega arith in rw all at m
+
 pub lay-plain : (at count : ℕ) (s old new : List ℕ) → at + count ≤ length old → Laid (slotOf (length old) 0) at count s old new → Laid itself at count s old new
 lay-plain at count s old new fits m =
     let plain : (j : ℕ) → j < length old → slotOf (length old) 0 j ≡ j = λ j h. slot-near (length old) 0 j (omega arith) ∙ omega arith in

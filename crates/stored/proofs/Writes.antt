@@ -43,13 +43,13 @@ write-done k t text mid out w value m ok room em eo ev wide ew =
     cc (ok, le-ltb _ _ room, ew, eo, all, form-put k t text mid em)
 
 -- the rules of the promises and answers of this crate
-pub ring-stored : (r : Ring) (slots before : List ℕ) (a : ringAnswer.Answer) (text : List ℕ) (m value : ℕ) → a ≡ rings.says m value 0 r
+pub ring-stored : (r after : Ring) (slots before : List ℕ) (a : ringAnswer.Answer) (text : List ℕ) (m value : ℕ) → a ≡ rings.says m value 0 after → after .total ≡ r .total
     → seenRing a slots text ≡ writes ring (rings.tray r slots) before → RingStored r slots before a text
-ring-stored r slots before a text m value is e = record { row = e; slot = ap (λ a. a .slot) is }
+ring-stored r after slots before a text m value is same e = record { row = e; slot = ap (λ a. a .slot) is; total = ap (λ a. a .ring .total) is ∙ same }
 
-pub vector-stored : (v : Vector) (slots before : List ℕ) (a : vectorAnswer.Answer) (text : List ℕ) (m value : ℕ) → a ≡ vectors.says m value 0 v
-    → seenVector a slots text ≡ writes vector (vectors.tray v slots) before → VectorStored v slots before a text
-vector-stored v slots before a text m value is e = record { row = e; slot = ap (λ a. a .slot) is }
+pub vector-stored : (v after : Vector) (slots before : List ℕ) (a : vectorAnswer.Answer) (text : List ℕ) (m value : ℕ) → a ≡ vectors.says m value 0 after
+    → after .total ≡ v .total → seenVector a slots text ≡ writes vector (vectors.tray v slots) before → VectorStored v slots before a text
+vector-stored v after slots before a text m value is same e = record { row = e; slot = ap (λ a. a .slot) is; total = ap (λ a. a .vector .total) is ∙ same }
 
 pub ring-refused : (r : Ring) (slots text : List ℕ) (a : ringAnswer.Answer) (m : ℕ) → a ≡ rings.says m 0 0 r → seenRing a slots text ≡ refusing (rings.tray r slots) m text
 ring-refused r slots text a m e = ap (λ a. seenRing a slots text) e

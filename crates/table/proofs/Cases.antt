@@ -4,6 +4,7 @@ pub mod Worked
 pub mod WorkedChanges
 pub mod WorkedEmptied
 pub mod WorkedReported
+pub mod WorkedTotals
 pub mod WorkedTwo
 pub mod WorkedSame
 pub mod WorkedMakings

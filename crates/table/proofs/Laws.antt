@@ -14,6 +14,7 @@ pub mod Done2
 pub mod Equal
 pub mod Lending
 pub mod Reporting
+pub mod Totalling
 pub mod Rows
 pub mod Keeps
 pub mod Named

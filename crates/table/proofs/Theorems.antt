@@ -6,6 +6,8 @@ pub mod Order
 pub mod Refused
 pub mod Moves
 pub mod Reported
+pub mod Totals
+pub mod Sums
 pub mod Carrying
 pub mod CarriedSlots
 pub mod Parts

@@ -5,6 +5,7 @@ pub mod Table
 pub mod Numbers
 pub mod Does
 pub mod Reported
+pub mod Totals
 pub mod Parts
 pub mod Lent
 pub mod Tested

@@ -9,7 +9,9 @@ use Rattle.table.specs.Calls as table
 use Rattle.table.specs.Calls.{new}
 use Rattle.table.specs.Does.{Outcome2, made}
 use Rattle.table.specs.World.{World}
+use Rattle.ring.specs.declared.Ring.{Ring}
 use Rattle.ring.specs.Seen as rings
+use Rattle.vector.specs.declared.Vector.{Vector}
 use Rattle.vector.specs.Seen as vectors
 use Rattle.ring.specs.declared.Answer as ringAnswers
 use Rattle.vector.specs.declared.Answer as vectorAnswers
@@ -27,45 +29,49 @@ use Rattle.tray_lines.specs.declared.acts.VectorDid.{VectorDid}
 use Rattle.tray_lines.specs.declared.acts.Trays.{Trays}
 use Rattle.tray_lines.specs.declared.acts.Answer.{Answer}
 use Rattle.tray_lines.specs.Acts.{Act, one, two, ringAct, vectorAct, beside, actDoes, eventAt, actSlot, reports, Acts, actsAs, acts, free, begun}
-use Rattle.tray_lines.specs.Seen.{ringHere, vectorHere, world, ringsSeen, vectorsSeen, RingDoes, VectorDoes, oneRing, oneVector, twoRings, twoVectors, ringAnswer, vectorAnswer}
+use Rattle.tray_lines.specs.Seen.{ringState, vectorState, ringHere, vectorHere, world, ringsSeen, vectorsSeen, RingDoes, VectorDoes, oneRing, oneVector, twoRings, twoVectors, ringAnswer, vectorAnswer}
 
 -- an operation on one container: `op` is known to be `is`
-pub ring-one : (op is : RingOp) (call : table.Call) (me : HeldRing) (a : ringAnswers.Answer) (s : List ℕ) (other : HeldRing) (d : RingDid)
-    → op ≡ is → ringAct is ≡ one call → rings.Meets call (me .ring) (me .slots) a s → d ≡ oneRing a s other
+pub ring-one : (op is : RingOp) (call : table.Call) (me : HeldRing) (r : Ring) (a : ringAnswers.Answer) (s : List ℕ) (other : HeldRing) (d : RingDid)
+    → op ≡ is → ringAct is ≡ one call → r ≡ ringState me → rings.Meets call r (me .slots) a s → d ≡ oneRing a s other
     → RingDoes op me other d
-ring-one op is call me a s other d eo ec ea ed =
+ring-one op is call me r a s other d eo ec er meets ed =
     let act : ringAct op ≡ one call = ap ringAct eo ∙ ec in
+    let ea : rings.Meets call (ringState me) (me .slots) a s = rw er at meets in
     record {
       row = ap ringsSeen ed ∙ ap (λ o. beside o (ringHere other .tray)) (ea .row) ∙ sym (ap (λ (x : Act). actDoes ring x (ringHere me .tray) (ringHere other .tray)) act);
       slot = ap (λ (d : RingDid). d .slot) ed ∙ ea .slot ∙ sym (ap (λ (x : Act). actSlot ring x (ringHere me .tray)) act);
     }
 
-pub vector-one : (op is : VectorOp) (call : table.Call) (me : HeldVector) (a : vectorAnswers.Answer) (s : List ℕ) (other : HeldVector) (d : VectorDid)
-    → op ≡ is → vectorAct is ≡ one call → vectors.Meets call (me .vector) (me .slots) a s → d ≡ oneVector a s other
+pub vector-one : (op is : VectorOp) (call : table.Call) (me : HeldVector) (v : Vector) (a : vectorAnswers.Answer) (s : List ℕ) (other : HeldVector) (d : VectorDid)
+    → op ≡ is → vectorAct is ≡ one call → v ≡ vectorState me → vectors.Meets call v (me .slots) a s → d ≡ oneVector a s other
     → VectorDoes op me other d
-vector-one op is call me a s other d eo ec ea ed =
+vector-one op is call me v a s other d eo ec er meets ed =
     let act : vectorAct op ≡ one call = ap vectorAct eo ∙ ec in
+    let ea : vectors.Meets call (vectorState me) (me .slots) a s = rw er at meets in
     record {
       row = ap vectorsSeen ed ∙ ap (λ o. beside o (vectorHere other .tray)) (ea .row) ∙ sym (ap (λ (x : Act). actDoes vector x (vectorHere me .tray) (vectorHere other .tray)) act);
       slot = ap (λ (d : VectorDid). d .slot) ed ∙ ea .slot ∙ sym (ap (λ (x : Act). actSlot vector x (vectorHere me .tray)) act);
     }
 
 -- and one on two
-pub ring-two : (op is : RingOp) (call : table.Call2) (me other : HeldRing) (a : ringPair.Both) (s s2 : List ℕ) (d : RingDid)
-    → op ≡ is → ringAct is ≡ two call → ringPairs.Meets call (me .ring) (me .slots) (other .ring) (other .slots) a s s2 → d ≡ twoRings a s s2
+pub ring-two : (op is : RingOp) (call : table.Call2) (me other : HeldRing) (r t : Ring) (a : ringPair.Both) (s s2 : List ℕ) (d : RingDid)
+    → op ≡ is → ringAct is ≡ two call → r ≡ ringState me → t ≡ ringState other → ringPairs.Meets call r (me .slots) t (other .slots) a s s2 → d ≡ twoRings a s s2
     → RingDoes op me other d
-ring-two op is call me other a s s2 d eo ec ea ed =
+ring-two op is call me other r t a s s2 d eo ec er et meets ed =
     let act : ringAct op ≡ two call = ap ringAct eo ∙ ec in
+    let ea : ringPairs.Meets call (ringState me) (me .slots) (ringState other) (other .slots) a s s2 = rw (er, et) at meets in
     record {
       row = ap ringsSeen ed ∙ ea .row ∙ sym (ap (λ (x : Act). actDoes ring x (ringHere me .tray) (ringHere other .tray)) act);
       slot = ap (λ (d : RingDid). d .slot) ed ∙ ea .slot ∙ sym (ap (λ (x : Act). actSlot ring x (ringHere me .tray)) act);
     }
 
-pub vector-two : (op is : VectorOp) (call : table.Call2) (me other : HeldVector) (a : vectorPair.Both) (s s2 : List ℕ) (d : VectorDid)
-    → op ≡ is → vectorAct is ≡ two call → vectorPairs.Meets call (me .vector) (me .slots) (other .vector) (other .slots) a s s2 → d ≡ twoVectors a s s2
+pub vector-two : (op is : VectorOp) (call : table.Call2) (me other : HeldVector) (v t : Vector) (a : vectorPair.Both) (s s2 : List ℕ) (d : VectorDid)
+    → op ≡ is → vectorAct is ≡ two call → v ≡ vectorState me → t ≡ vectorState other → vectorPairs.Meets call v (me .slots) t (other .slots) a s s2 → d ≡ twoVectors a s s2
     → VectorDoes op me other d
-vector-two op is call me other a s s2 d eo ec ea ed =
+vector-two op is call me other v t a s s2 d eo ec er et meets ed =
     let act : vectorAct op ≡ two call = ap vectorAct eo ∙ ec in
+    let ea : vectorPairs.Meets call (vectorState me) (me .slots) (vectorState other) (other .slots) a s s2 = rw (er, et) at meets in
     record {
       row = ap vectorsSeen ed ∙ ea .row ∙ sym (ap (λ (x : Act). actDoes vector x (vectorHere me .tray) (vectorHere other .tray)) act);
       slot = ap (λ (d : VectorDid). d .slot) ed ∙ ea .slot ∙ sym (ap (λ (x : Act). actSlot vector x (vectorHere me .tray)) act);

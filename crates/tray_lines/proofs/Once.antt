@@ -25,10 +25,10 @@ once : {A B : Type 0} (seen : A → B) (back : B → A) → ((a : A) → back (s
 once seen back is o a a′ p q = sym (is a) ∙ ap back (p ∙ sym q) ∙ is a′
 
 abbrev ringOf : Tray → HeldRing
-ringOf t = record { ring = record { head = t .head; len = t .len }; slots = t .slots }
+ringOf t = record { head = t .head; len = t .len; slots = t .slots }
 
 abbrev vectorOf : Tray → HeldVector
-vectorOf t = record { vector = record { len = t .len }; slots = t .slots }
+vectorOf t = record { len = t .len; slots = t .slots }
 
 abbrev traysOf : World → Trays
 traysOf w = record { ring0 = ringOf (at w 0 .tray); ring1 = ringOf (at w 1 .tray); vector2 = vectorOf (at w 2 .tray); vector3 = vectorOf (at w 3 .tray) }

@@ -6,7 +6,10 @@ use Rattle.slots.specs.Layout.{ring, vector}
 use Rattle.table.specs.Tray.{nowhere}
 use Rattle.table.specs.Does.{Outcome2}
 use Rattle.table.specs.World.{Container, World}
+use Rattle.runs.specs.Width.{summing}
+use Rattle.ring.specs.declared.Ring.{Ring}
 use Rattle.ring.specs.Seen as rings
+use Rattle.vector.specs.declared.Vector.{Vector}
 use Rattle.vector.specs.Seen as vectors
 use Rattle.ring.specs.declared.Answer as ringAnswers
 use Rattle.vector.specs.declared.Answer as vectorAnswers
@@ -23,11 +26,25 @@ use Rattle.tray_lines.specs.declared.acts.Answer.{Answer}
 use Rattle.tray_lines.specs.declared.acts.Acted.{Acted}
 use Rattle.tray_lines.specs.Acts.{Acts, ringAct, vectorAct, actDoes, actSlot}
 
+-- the state that a call gets: no line tells a total, and each call starts from 0
+abbrev pub ringState : HeldRing → Ring
+ringState h = rings.state (h .head) (h .len) (summing 0)
+
+abbrev pub vectorState : HeldVector → Vector
+vectorState h = vectors.state (h .len) (summing 0)
+
+-- the container that it leaves
+abbrev pub heldRing : Ring → (slots : List ℕ) → HeldRing
+heldRing r slots = record { head = r .head; len = r .len; slots = slots }
+
+abbrev pub heldVector : Vector → (slots : List ℕ) → HeldVector
+heldVector v slots = record { len = v .len; slots = slots }
+
 abbrev pub ringHere : HeldRing → Container
-ringHere h = record { kind = ring; tray = rings.tray (h .ring) (h .slots) }
+ringHere h = record { kind = ring; tray = rings.tray (ringState h) (h .slots) }
 
 abbrev pub vectorHere : HeldVector → Container
-vectorHere h = record { kind = vector; tray = vectors.tray (h .vector) (h .slots) }
+vectorHere h = record { kind = vector; tray = vectors.tray (vectorState h) (h .slots) }
 
 -- rings 0 and 1, vectors 2 and 3
 abbrev pub world : Trays → World
@@ -66,11 +83,11 @@ pub record VectorDoes (op : VectorOp) (me other : HeldVector) (d : VectorDid) : 
 -- what the private functions `one_ring` and `one_vector` answer: the other container as it was
 abbrev pub oneRing : ringAnswers.Answer → (slots : List ℕ) → HeldRing → RingDid
 oneRing a slots other =
-    record { number = a .number; value = a .value; moves = a .moves; slot = a .slot; me = record { ring = a .ring; slots = slots }; other = other }
+    record { number = a .number; value = a .value; moves = a .moves; slot = a .slot; me = heldRing (a .ring) slots; other = other }
 
 abbrev pub oneVector : vectorAnswers.Answer → (slots : List ℕ) → HeldVector → VectorDid
 oneVector a slots other =
-    record { number = a .number; value = a .value; moves = a .moves; slot = a .slot; me = record { vector = a .vector; slots = slots }; other = other }
+    record { number = a .number; value = a .value; moves = a .moves; slot = a .slot; me = heldVector (a .vector) slots; other = other }
 
 -- what `two_rings` and `two_vectors` answer
 abbrev pub twoRings : ringPair.Both → (slots theirs : List ℕ) → RingDid
@@ -79,8 +96,8 @@ twoRings a slots theirs = record {
   value = a .value;
   moves = a .moves;
   slot = a .slot;
-  me = record { ring = a .first; slots = slots };
-  other = record { ring = a .second; slots = theirs };
+  me = heldRing (a .first) slots;
+  other = heldRing (a .second) theirs;
 }
 
 abbrev pub twoVectors : vectorPair.Both → (slots theirs : List ℕ) → VectorDid
@@ -89,16 +106,16 @@ twoVectors a slots theirs = record {
   value = a .value;
   moves = a .moves;
   slot = a .slot;
-  me = record { vector = a .first; slots = slots };
-  other = record { vector = a .second; slots = theirs };
+  me = heldVector (a .first) slots;
+  other = heldVector (a .second) theirs;
 }
 
 -- what `ring_answer` and `vector_answer` answer
 abbrev pub ringAnswer : RingDid → Answer
-ringAnswer d = record { number = d .number; value = d .value; moves = d .moves; slot = d .slot; head = d .me .ring .head; len = d .me .ring .len }
+ringAnswer d = record { number = d .number; value = d .value; moves = d .moves; slot = d .slot; head = d .me .head; len = d .me .len }
 
 abbrev pub vectorAnswer : VectorDid → Answer
-vectorAnswer d = record { number = d .number; value = d .value; moves = d .moves; slot = d .slot; head = 0; len = d .me .vector .len }
+vectorAnswer d = record { number = d .number; value = d .value; moves = d .moves; slot = d .slot; head = 0; len = d .me .len }
 
 abbrev pub actedSeen : Acted → Acts
 actedSeen a = record { world = world (a .trays); answer = a .answer }

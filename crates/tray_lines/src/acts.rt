@@ -3,23 +3,25 @@ use crate::lines::Call;
 use crate::lines::RingOp;
 use crate::lines::VectorOp;
 use ring::Ring;
+use runs::total;
 use vector::Vector;
 ghost use mathlib.Core.Path.{_≡_};
 ghost use Rattle.slots.specs.Layout.{ring, vector};
 ghost use Rattle.table.specs.Calls.{new};
 ghost use Rattle.table.specs.Does.{made};
-ghost use Rattle.tray_lines.specs.Seen.{ringHere, vectorHere, world, RingDoes, VectorDoes, oneRing, oneVector, twoRings, twoVectors, ringAnswer, vectorAnswer, actedSeen};
+ghost use Rattle.tray_lines.specs.Seen.{ringState, vectorState, ringHere, vectorHere, world, RingDoes, VectorDoes, oneRing, oneVector, twoRings, twoVectors, ringAnswer, vectorAnswer, actedSeen};
 ghost use Rattle.tray_lines.specs.Acts.{free, begun, acts};
 
-// A ring with its slots.
+// A ring with its slots. No line tells a total, so none is kept.
 pub struct HeldRing {
-    pub ring: Ring,
+    pub head: usize,
+    pub len: usize,
     pub slots: [u32; 4],
 }
 
 // A vector with its slots.
 pub struct HeldVector {
-    pub vector: Vector,
+    pub len: usize,
     pub slots: [u32; 4],
 }
 
@@ -67,13 +69,30 @@ pub struct Acted {
     pub answer: Answer,
 }
 
+// The state that a call gets.
+fn ring_of(h: HeldRing) -> Ring
+    ensures { λ r. ⌜ r ≡ ringState h ⌝ }
+{
+    ring::state(h.head, h.len, total::none())
+}
+
+fn vector_of(h: HeldVector) -> Vector
+    ensures { λ r. ⌜ r ≡ vectorState h ⌝ }
+{
+    vector::state(h.len, total::none())
+}
+
 fn new_ring() -> HeldRing
     ensures { λ r. ⌜ ringHere r .tray ≡ made ring new free .tray ⌝ }
 {
     let slots = [0u32; 4];
     let a = Ring::new(&slots);
     let ring = a.ring;
-    HeldRing { ring, slots }
+    HeldRing {
+        head: ring.head,
+        len: ring.len,
+        slots,
+    }
 }
 
 fn new_vector() -> HeldVector
@@ -82,7 +101,10 @@ fn new_vector() -> HeldVector
     let slots = [0u32; 4];
     let a = Vector::new(&slots);
     let vector = a.vector;
-    HeldVector { vector, slots }
+    HeldVector {
+        len: vector.len,
+        slots,
+    }
 }
 
 // The four makings: capacity 4 each, all slots 0, empty.
@@ -106,7 +128,11 @@ fn one_ring(a: ring::Answer, slots: [u32; 4], other: HeldRing) -> RingDid
         value: a.value,
         moves: a.moves,
         slot: a.slot,
-        me: HeldRing { ring, slots },
+        me: HeldRing {
+            head: ring.head,
+            len: ring.len,
+            slots,
+        },
         other,
     }
 }
@@ -120,7 +146,10 @@ fn one_vector(a: vector::Answer, slots: [u32; 4], other: HeldVector) -> VectorDi
         value: a.value,
         moves: a.moves,
         slot: a.slot,
-        me: HeldVector { vector, slots },
+        me: HeldVector {
+            len: vector.len,
+            slots,
+        },
         other,
     }
 }
@@ -135,9 +164,14 @@ fn two_rings(a: pairs::rings::Both, slots: [u32; 4], theirs: [u32; 4]) -> RingDi
         value: a.value,
         moves: a.moves,
         slot: a.slot,
-        me: HeldRing { ring: first, slots },
+        me: HeldRing {
+            head: first.head,
+            len: first.len,
+            slots,
+        },
         other: HeldRing {
-            ring: second,
+            head: second.head,
+            len: second.len,
             slots: theirs,
         },
     }
@@ -154,11 +188,11 @@ fn two_vectors(a: pairs::vectors::Both, slots: [u32; 4], theirs: [u32; 4]) -> Ve
         moves: a.moves,
         slot: a.slot,
         me: HeldVector {
-            vector: first,
+            len: first.len,
             slots,
         },
         other: HeldVector {
-            vector: second,
+            len: second.len,
             slots: theirs,
         },
     }
@@ -168,8 +202,8 @@ fn two_vectors(a: pairs::vectors::Both, slots: [u32; 4], theirs: [u32; 4]) -> Ve
 pub fn on_ring(op: RingOp, me: HeldRing, other: HeldRing) -> RingDid
     ensures { λ r. ⌜ RingDoes op me other r ⌝ }
 {
-    let r = me.ring;
-    let t = other.ring;
+    let r = ring_of(me);
+    let t = ring_of(other);
     let mut s = me.slots;
     let mut o = other.slots;
     match op {
@@ -193,8 +227,8 @@ pub fn on_ring(op: RingOp, me: HeldRing, other: HeldRing) -> RingDid
 pub fn on_vector(op: VectorOp, me: HeldVector, other: HeldVector) -> VectorDid
     ensures { λ r. ⌜ VectorDoes op me other r ⌝ }
 {
-    let v = me.vector;
-    let t = other.vector;
+    let v = vector_of(me);
+    let t = vector_of(other);
     let mut s = me.slots;
     let mut o = other.slots;
     match op {
@@ -225,8 +259,8 @@ fn ring_answer(d: RingDid) -> Answer
         value: d.value,
         moves: d.moves,
         slot: d.slot,
-        head: d.me.ring.head,
-        len: d.me.ring.len,
+        head: d.me.head,
+        len: d.me.len,
     }
 }
 
@@ -239,7 +273,7 @@ fn vector_answer(d: VectorDid) -> Answer
         moves: d.moves,
         slot: d.slot,
         head: 0,
-        len: d.me.vector.len,
+        len: d.me.len,
     }
 }
 

@@ -3,7 +3,7 @@
 use mathlib.Core.Path.{_≡_, refl, ap, _∙_}
 use mathlib.Core.Bool.{false}
 use mathlib.Core.List.{List}
-use Prim.Native.Nat.{ℕ, _<_}
+use Prim.Native.Nat.{ℕ, _^_, _<_}
 use Rattle.slots.specs.Layout.{Kind, ring, vector}
 use Rattle.table.specs.Tray.{Tray, list, invalid, nowhere}
 use Rattle.table.specs.Calls.{same}
@@ -12,6 +12,7 @@ use Rattle.table.specs.Does.{Outcome2, refused2, done2, does2, rowOf2, refusals
 use Rattle.table.specs.Reported.{noSlot}
 use Rattle.table.proofs.Laws.Refusals.{either}
 use Rattle.table.proofs.Laws.Done.{Homed, homed}
+use Rattle.table.proofs.Laws.Totalling.{first-same, second-same}
 use Rattle.ring.specs.declared.Ring.{Ring}
 use Rattle.vector.specs.declared.Vector.{Vector}
 use Rattle.pairs.specs.declared.rings.Both as of-rings
@@ -20,7 +21,7 @@ use Rattle.pairs.specs.declared.mixed.Both as of-mixed
 use Rattle.pairs.specs.Rings as rings
 use Rattle.pairs.specs.Vectors as vectors
 use Rattle.pairs.specs.Mixed as mixed
-use Rattle.tumbrelice.specs.Heard.{Worded, Hears2, ringIn, vectorIn, ringOf, vectorOf}
+use Rattle.tumbrelice.specs.Heard.{Worded, Held, Hears2, ringIn, vectorIn, ringTray, ringOf, vectorOf}
 use Rattle.tumbrelice.proofs.Words.{number-fits2, moves-fit2, none-fits, heard2-is, unmoved}
 
 -- a comparison leaves both
@@ -40,14 +41,24 @@ second-still k k2 t t2 home2 =
     (λ r. refl)
     (λ clear. unmoved k2 t2 (clear .1 .0) (home2 (clear .1 .0)))
 
--- THE RULE: o is what was seen of the call, and t and t2 what the caller gave and keeps
-compared : (k k2 : Kind) (t t2 : Tray) (o : Outcome2) (word : ℕ) → (invalid k t ≡ false → Homed k t) → (invalid k2 t2 ≡ false → Homed k2 t2) → o .cursor ≡ nowhere → o ≡ does2 k k2 same t t2
-    → Worded (o .number) (o .value) (o .moves) noSlot word → Hears2 k k2 same t t2 word t t2
-compared k k2 t t2 o word home home2 none e w =
-    let first : o .first ≡ t = ap (λ (o : Outcome2). o .first) e ∙ first-still k k2 t t2 home in
-    let second : o .second ≡ t2 = ap (λ (o : Outcome2). o .second) e ∙ second-still k k2 t t2 home2 in
+-- THE RULE: o is what was seen of the call, and b and b2 what the caller gave and keeps
+compared : (k k2 : Kind) (b b2 : Held) (o : Outcome2) (word : ℕ) → (invalid k (b .tray) ≡ false → Homed k (b .tray)) → (invalid k2 (b2 .tray) ≡ false → Homed k2 (b2 .tray))
+    → b .total < 2 ^ 64 → b2 .total < 2 ^ 64 → o .cursor ≡ nowhere → o ≡ does2 k k2 same (b .tray) (b2 .tray) → Worded (o .number) (o .value) (o .moves) noSlot word
+    → Hears2 k k2 same b b2 word b b2
+compared k k2 b b2 o word home home2 small small2 none e w =
+    let t : Tray = b .tray in
+    let t2 : Tray = b2 .tray in
+    let still = first-still k k2 t t2 home in
+    let still2 = second-still k k2 t t2 home2 in
+    let first : o .first ≡ t = ap (λ (o : Outcome2). o .first) e ∙ still in
+    let second : o .second ≡ t2 = ap (λ (o : Outcome2). o .second) e ∙ still2 in
     let whole : o ≡ record { number = o .number; value = o .value; moves = o .moves; first = o .first; second = o .second; cursor = o .cursor } = refl in
-    record { row = heard2-is (o .number) (o .value) (o .moves) noSlot word t t2 _ w (cc); slot = w .slot }
+    record {
+      row = heard2-is (o .number) (o .value) (o .moves) noSlot word t t2 _ w (cc);
+      slot = w .slot;
+      total = first-same k k2 same t t2 _ (b .total) (b2 .total) refl still small;
+      total2 = second-same k k2 same t t2 _ (b .total) (b2 .total) refl still2 small2;
+    }
 
 -- and for each pair of kinds, with the states as numbers
 module _ (r t : Ring) (s z : List ℕ) (a : of-rings.Both) (e : rings.Meets same r s t z a s z) where
@@ -60,11 +71,11 @@ module _ (r t : Ring) (s z : List ℕ) (a : of-rings.Both) (e : rings.Meets same
   pub rings-slot : a .slot < 65536
   rings-slot = none-fits (a .slot) (e .slot)
 
-pub rings-compared : (st ot s z : List ℕ) (r t : Ring) (a : of-rings.Both) (word : ℕ) → r ≡ ringIn st → t ≡ ringIn ot → rings.Meets same r s t z a s z
+pub rings-compared : (st ot s z : List ℕ) (r t : Ring) (a : of-rings.Both) (word : ℕ) → r ≡ ringIn st → t ≡ ringIn ot → r .total .sum < 2 ^ 64 → t .total .sum < 2 ^ 64 → rings.Meets same r s t z a s z
     → Worded (a .number) (a .value) (a .moves) (a .slot) word → Hears2 ring ring same (ringOf st s) (ringOf ot z) word (ringOf st s) (ringOf ot z)
-rings-compared st ot s z r t a word er et e w =
+rings-compared st ot s z r t a word er et small small2 e w =
     let e′ : rings.Meets same (ringIn st) s (ringIn ot) z a s z = rw (er, et) at e in
-    compared ring ring _ _ (rings.seen2 a s z) word (homed (ringOf st s)) (homed (ringOf ot z)) refl (e′ .row) (rw (e′ .slot) at w)
+    compared ring ring (ringOf st s) (ringOf ot z) (rings.seen2 a s z) word (homed (ringTray st s)) (homed (ringTray ot z)) (rw er at small) (rw et at small2) refl (e′ .row) (rw (e′ .slot) at w)
 
 module _ (v t : Vector) (s z : List ℕ) (a : of-vectors.Both) (e : vectors.Meets same v s t z a s z) where
   pub vectors-number : a .number < 16
@@ -76,11 +87,11 @@ module _ (v t : Vector) (s z : List ℕ) (a : of-vectors.Both) (e : vectors.Meet
   pub vectors-slot : a .slot < 65536
   vectors-slot = none-fits (a .slot) (e .slot)
 
-pub vectors-compared : (n m : ℕ) (s z : List ℕ) (v t : Vector) (a : of-vectors.Both) (word : ℕ) → v ≡ vectorIn n → t ≡ vectorIn m → vectors.Meets same v s t z a s z
+pub vectors-compared : (n m s z : List ℕ) (v t : Vector) (a : of-vectors.Both) (word : ℕ) → v ≡ vectorIn n → t ≡ vectorIn m → v .total .sum < 2 ^ 64 → t .total .sum < 2 ^ 64 → vectors.Meets same v s t z a s z
     → Worded (a .number) (a .value) (a .moves) (a .slot) word → Hears2 vector vector same (vectorOf n s) (vectorOf m z) word (vectorOf n s) (vectorOf m z)
-vectors-compared n m s z v t a word ev et e w =
+vectors-compared n m s z v t a word ev et small small2 e w =
     let e′ : vectors.Meets same (vectorIn n) s (vectorIn m) z a s z = rw (ev, et) at e in
-    compared vector vector _ _ (vectors.seen2 a s z) word (λ ok. refl) (λ ok. refl) refl (e′ .row) (rw (e′ .slot) at w)
+    compared vector vector (vectorOf n s) (vectorOf m z) (vectors.seen2 a s z) word (λ ok. refl) (λ ok. refl) (rw ev at small) (rw et at small2) refl (e′ .row) (rw (e′ .slot) at w)
 
 module _ (r : Ring) (t : Vector) (s z : List ℕ) (a : of-mixed.Both) (e : mixed.Meets same r s t z a s z) where
   pub mixed-number : a .number < 16
@@ -92,11 +103,11 @@ module _ (r : Ring) (t : Vector) (s z : List ℕ) (a : of-mixed.Both) (e : mixed
   pub mixed-slot : a .slot < 65536
   mixed-slot = none-fits (a .slot) (e .slot)
 
-pub mixed-compared : (st : List ℕ) (m : ℕ) (s z : List ℕ) (r : Ring) (t : Vector) (a : of-mixed.Both) (word : ℕ) → r ≡ ringIn st → t ≡ vectorIn m
+pub mixed-compared : (st m s z : List ℕ) (r : Ring) (t : Vector) (a : of-mixed.Both) (word : ℕ) → r ≡ ringIn st → t ≡ vectorIn m → r .total .sum < 2 ^ 64 → t .total .sum < 2 ^ 64
     → mixed.Meets same r s t z a s z → Worded (a .number) (a .value) (a .moves) (a .slot) word
     → Hears2 ring vector same (ringOf st s) (vectorOf m z) word (ringOf st s) (vectorOf m z)
-mixed-compared st m s z r t a word er et e w =
+mixed-compared st m s z r t a word er et small small2 e w =
     let e′ : mixed.Meets same (ringIn st) s (vectorIn m) z a s z = rw (er, et) at e in
-    compared ring vector _ _ (mixed.seen2 a s z) word (homed (ringOf st s)) (λ ok. refl) refl (e′ .row) (rw (e′ .slot) at w)
+    compared ring vector (ringOf st s) (vectorOf m z) (mixed.seen2 a s z) word (homed (ringTray st s)) (λ ok. refl) (rw er at small) (rw et at small2) refl (e′ .row) (rw (e′ .slot) at w)
 
 pub ruleset fits = (rings-number, rings-moves, rings-slot, vectors-number, vectors-moves, vectors-slot, mixed-number, mixed-moves, mixed-slot)

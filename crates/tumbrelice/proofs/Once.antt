@@ -2,17 +2,18 @@
 -- state and the contents of the slots that they come with.
 use Prim.Native.Nat.{ℕ}
 use native.Mathlib.Omega.{arith}
-use mathlib.Core.Path.{_≡_, sym, ap, _∙_}
+use mathlib.Core.Path.{_≡_, sym, ap, ap₂, _∙_}
 use mathlib.Core.List.{List}
 use contract.Lifetimes.{Lfts}
 use denote.Ref.{now}
 use Rattle.slots.specs.Layout.{Kind}
 use Rattle.slots.proofs.Twice.{Twice}
-use Rattle.table.specs.Tray.{Tray, Cursor}
+use Rattle.table.specs.Tray.{Cursor}
 use Rattle.table.specs.Calls.{Call, Call2, Look}
+use Rattle.table.specs.Does.{Outcome2}
 use Rattle.record.specs.declared.texts.Told.{Told}
 use Rattle.record.specs.Unquoted.{Unquoted}
-use Rattle.tumbrelice.specs.Heard.{valueIn, slotIn, movesIn, numberIn, Hears, HearsAt, Hears2, ringOf, vectorOf, cursorOf}
+use Rattle.tumbrelice.specs.Heard.{valueIn, slotIn, movesIn, numberIn, heard2, Held, Hears, HearsAt, Hears2, ringOf, vectorOf, cursorOf}
 use Rattle.tumbrelice.specs.HeardText.{HearsRecord, heardTold}
 use Rattle.tumbrelice.proofs.rings as rings
 use Rattle.tumbrelice.proofs.vectors as vectors
@@ -25,27 +26,38 @@ use Rattle.tumbrelice.proofs.walks as walks
 one-word : (w w′ : ℕ) → numberIn w ≡ numberIn w′ → valueIn w ≡ valueIn w′ → movesIn w ≡ movesIn w′ → slotIn w ≡ slotIn w′ → w ≡ w′
 one-word w w′ number value moves slot = omega arith
 
-one : {k : Kind} {call : Call} {b : Tray} (w w′ : ℕ) (t t′ : Tray) → Hears k call b w t → Hears k call b w′ t′ → (w ≡ w′) × (t ≡ t′)
-one w w′ t t′ p q =
-    let same = p .row ∙ sym (q .row) in
-    (one-word w w′ (ap (λ o. o .number) same) (ap (λ o. o .value) same) (ap (λ o. o .moves) same) (p .slot ∙ sym (q .slot)), ap (λ o. o .tray) same)
+-- a container is told by its tray and its total
+one-held : {b b′ : Held} → b .tray ≡ b′ .tray → b .total ≡ b′ .total → b ≡ b′
+one-held tray total = ap₂ (λ t n. record { tray = t; total = n }) tray total
 
-one-at : {k : Kind} {s : Look} {t : Tray} (w w′ : ℕ) (u u′ : Cursor) → HearsAt k s t w u → HearsAt k s t w′ u′ → (w ≡ w′) × (u ≡ u′)
+one : {k : Kind} {call : Call} {b : Held} (w w′ : ℕ) (t t′ : Held) → Hears k call b w t → Hears k call b w′ t′ → (w ≡ w′) × (t ≡ t′)
+one w w′ t t′ p q =
+    let same = p .row ∙ sym (q .row) in (
+      one-word w w′ (ap (λ o. o .number) same) (ap (λ o. o .value) same) (ap (λ o. o .moves) same) (p .slot ∙ sym (q .slot)),
+      one-held (ap (λ o. o .tray) same) (p .total ∙ sym (q .total)),
+    )
+
+one-at : {k : Kind} {s : Look} {b : Held} (w w′ : ℕ) (u u′ : Cursor) → HearsAt k s b w u → HearsAt k s b w′ u′ → (w ≡ w′) × (u ≡ u′)
 one-at w w′ u u′ p q =
     let same = p .row ∙ sym (q .row) in
     (one-word w w′ (ap (λ o. o .number) same) (ap (λ o. o .value) same) (ap (λ o. o .moves) same) (p .slot ∙ sym (q .slot)), ap (λ o. o .cursor) same)
 
-one2 : {k k2 : Kind} {call : Call2} {b b2 : Tray} (w w′ : ℕ) (t t′ t2 t2′ : Tray) → Hears2 k k2 call b b2 w t t2 → Hears2 k k2 call b b2 w′ t′ t2′
-    → (w ≡ w′) × (t ≡ t′) × (t2 ≡ t2′)
-one2 w w′ t t′ t2 t2′ p q =
-    let same = p .row ∙ sym (q .row) in
-    (one-word w w′ (ap (λ o. o .number) same) (ap (λ o. o .value) same) (ap (λ o. o .moves) same) (p .slot ∙ sym (q .slot)), ap (λ o. o .first) same, ap (λ o. o .second) same)
+-- of a call on two, and of a record: o is its outcome, n and m are the totals
+one-two : (o : Outcome2) (n m : ℕ) (w w′ : ℕ) (t t′ t2 t2′ : Held) → heard2 w (t .tray) (t2 .tray) ≡ o → heard2 w′ (t′ .tray) (t2′ .tray) ≡ o → slotIn w ≡ slotIn w′
+    → t .total ≡ n → t′ .total ≡ n → t2 .total ≡ m → t2′ .total ≡ m → (w ≡ w′) × (t ≡ t′) × (t2 ≡ t2′)
+one-two o n m w w′ t t′ t2 t2′ p q slot first first′ second second′ =
+    let same = p ∙ sym q in (
+      one-word w w′ (ap (λ o. o .number) same) (ap (λ o. o .value) same) (ap (λ o. o .moves) same) slot,
+      one-held (ap (λ o. o .first) same) (first ∙ sym first′),
+      one-held (ap (λ o. o .second) same) (second ∙ sym second′),
+    )
 
--- of the calls on a record
-one-record : {text : List ℕ} {b b2 : Tray} (w w′ : ℕ) (t t′ t2 t2′ : Tray) → HearsRecord text b b2 w t t2 → HearsRecord text b b2 w′ t′ t2′ → (w ≡ w′) × (t ≡ t′) × (t2 ≡ t2′)
-one-record w w′ t t′ t2 t2′ p q =
-    let same = p .row ∙ sym (q .row) in
-    (one-word w w′ (ap (λ o. o .number) same) (ap (λ o. o .value) same) (ap (λ o. o .moves) same) (p .slot ∙ sym (q .slot)), ap (λ o. o .first) same, ap (λ o. o .second) same)
+one2 : {k k2 : Kind} {call : Call2} {b b2 : Held} (w w′ : ℕ) (t t′ t2 t2′ : Held) → Hears2 k k2 call b b2 w t t2 → Hears2 k k2 call b b2 w′ t′ t2′
+    → (w ≡ w′) × (t ≡ t′) × (t2 ≡ t2′)
+one2 w w′ t t′ t2 t2′ p q = one-two _ _ _ w w′ t t′ t2 t2′ (p .row) (q .row) (p .slot ∙ sym (q .slot)) (p .total) (q .total) (p .total2) (q .total2)
+
+one-record : {text : List ℕ} {b b2 : Held} (w w′ : ℕ) (t t′ t2 t2′ : Held) → HearsRecord text b b2 w t t2 → HearsRecord text b b2 w′ t′ t2′ → (w ≡ w′) × (t ≡ t′) × (t2 ≡ t2′)
+one-record w w′ t t′ t2 t2′ p q = one-two _ _ _ w w′ t t′ t2 t2′ (p .row) (q .row) (p .slot ∙ sym (q .slot)) (p .total) (q .total) (p .total2) (q .total2)
 
 one-told : (w w′ : ℕ) → heardTold w ≡ heardTold w′ → movesIn w ≡ 0 → movesIn w′ ≡ 0 → slotIn w ≡ slotIn w′ → w ≡ w′
 one-told w w′ same m m′ slot = one-word w w′ (ap (λ (a : Told). a .number) same) (ap (λ (a : Told). a .value) same) (m ∙ sym m′) slot

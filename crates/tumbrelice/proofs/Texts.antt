@@ -28,12 +28,17 @@ module _ (text : List ℕ) (v t : Vector) (s z s′ z′ : List ℕ) (a : Both) 
 
 pub ruleset record-fits = (record-number-fits, record-moves-fit, record-slot-fits)
 
-pub record-hears : (text : List ℕ) (n m n′ m′ : ℕ) (s z s′ z′ : List ℕ) (v t : Vector) (a : Both) (word : ℕ) → v ≡ vectorIn n → t ≡ vectorIn m
+pub record-hears : (text n m n′ m′ s z s′ z′ : List ℕ) (v t : Vector) (a : Both) (word : ℕ) → v ≡ vectorIn n → t ≡ vectorIn m
     → Records text v s t z a s′ z′ → n′ ≡ vectorOut (a .first) → m′ ≡ vectorOut (a .second) → Worded (a .number) (a .value) (a .moves) (a .slot) word
     → HearsRecord text (vectorOf n s) (vectorOf m z) word (vectorOf n′ s′) (vectorOf m′ z′)
 record-hears text n m n′ m′ s z s′ z′ v t a word ev et e en em w =
     let e′ : Records text (vectorIn n) s (vectorIn m) z a s′ z′ = rw (ev, et) at e in
-    rw (en, em) (record { row = heard2-is _ _ _ _ word (vectors.tray (a .first) s′) (vectors.tray (a .second) z′) _ w (e′ .row); slot = w .slot ∙ e′ .slot })
+    rw (en, em) (record {
+      row = heard2-is _ _ _ _ word (vectors.tray (a .first) s′) (vectors.tray (a .second) z′) _ w (e′ .row);
+      slot = w .slot ∙ e′ .slot;
+      total = e′ .total;
+      total2 = e′ .total2;
+    })
 
 -- an answer on a text alone
 pub judged-fits : (text : List ℕ) (a : Told) → a ≡ judges text → a .number < 16

@@ -2,7 +2,7 @@
 use mathlib.Core.Path.{_≡_, refl, sym, ap, _∙_}
 use mathlib.Core.Bool.{true, false}
 use mathlib.Core.List.{List}
-use Prim.Native.Nat.{ℕ, _+_, _*_, _/_, _%_, _<_}
+use Prim.Native.Nat.{ℕ, _+_, _*_, _/_, _%_, _^_, _<_}
 use native.Mathlib.Omega.{arith}
 use lib.Arith.{digits-div, digits-mod}
 use Rattle.slots.specs.Layout.{Kind, ring, vector}
@@ -14,9 +14,11 @@ use Rattle.table.specs.Reported.{noSlot, reported}
 use Rattle.table.proofs.Laws.Refusals.{either}
 use Rattle.table.proofs.Laws.Done.{Homed, homed, done-is, many, as-it-was}
 use Rattle.table.proofs.Laws.Looks.{look-done}
+use Rattle.table.proofs.Laws.Totalling.{first-same}
 use Rattle.table.proofs.Theorems.Refused.{few-numbers, few-numbers2}
 use Rattle.table.proofs.Theorems.Moves.{few-moves, moves-of2}
 use Rattle.table.proofs.Theorems.Reported.{fits-16}
+use Rattle.table.proofs.Theorems.Totals.{same-total}
 use Rattle.ring.specs.declared.Ring.{Ring}
 use Rattle.ring.specs.declared.Answer as ringAnswer
 use Rattle.ring.specs.Seen as rings
@@ -25,7 +27,7 @@ use Rattle.vector.specs.declared.Answer as vectorAnswer
 use Rattle.vector.specs.Seen as vectors
 use Rattle.pairs.specs.declared.rings.Both.{Both}
 use Rattle.pairs.specs.Rings as pairs
-use Rattle.tumbrelice.specs.Heard.{Worded, heardAt, heard2, Hears, Hears2, ringIn, ringOut, vectorIn, vectorOut, ringOf, vectorOf}
+use Rattle.tumbrelice.specs.Heard.{Worded, heardAt, heard2, Held, Hears, Hears2, ringIn, ringOut, vectorIn, vectorOut, ringTray, ringOf, vectorOf}
 
 -- the digits of a word
 pub worded : (m x k n word : ℕ) → k < 4096 → n < 65536 → x < 4294967296 → word ≡ ((m * 4096 + k) * 65536 + n) * 4294967296 + x → Worded m x k n word
@@ -107,13 +109,13 @@ pub ring-hears : (call : Call) (st st′ s s′ : List ℕ) (r : Ring) (a : ring
     → st′ ≡ ringOut (a .ring) → Worded (a .number) (a .value) (a .moves) (a .slot) word → Hears ring call (ringOf st s) word (ringOf st′ s′)
 ring-hears call st st′ s s′ r a word er e es w =
     let e′ : rings.Meets call (ringIn st) s a s′ = rw er at e in
-    rw es (record { row = heard-at _ _ _ _ word (rings.tray (a .ring) s′) nowhere _ w (e′ .row); slot = w .slot ∙ e′ .slot })
+    rw es (record { row = heard-at _ _ _ _ word (rings.tray (a .ring) s′) nowhere _ w (e′ .row); slot = w .slot ∙ e′ .slot; total = e′ .total })
 
-pub vector-hears : (call : Call) (n n′ : ℕ) (s s′ : List ℕ) (v : Vector) (a : vectorAnswer.Answer) (word : ℕ) → v ≡ vectorIn n → vectors.Meets call v s a s′
-    → n′ ≡ vectorOut (a .vector) → Worded (a .number) (a .value) (a .moves) (a .slot) word → Hears vector call (vectorOf n s) word (vectorOf n′ s′)
-vector-hears call n n′ s s′ v a word ev e en w =
-    let e′ : vectors.Meets call (vectorIn n) s a s′ = rw ev at e in
-    rw en (record { row = heard-at _ _ _ _ word (vectors.tray (a .vector) s′) nowhere _ w (e′ .row); slot = w .slot ∙ e′ .slot })
+pub vector-hears : (call : Call) (st st′ s s′ : List ℕ) (v : Vector) (a : vectorAnswer.Answer) (word : ℕ) → v ≡ vectorIn st → vectors.Meets call v s a s′
+    → st′ ≡ vectorOut (a .vector) → Worded (a .number) (a .value) (a .moves) (a .slot) word → Hears vector call (vectorOf st s) word (vectorOf st′ s′)
+vector-hears call st st′ s s′ v a word ev e en w =
+    let e′ : vectors.Meets call (vectorIn st) s a s′ = rw ev at e in
+    rw en (record { row = heard-at _ _ _ _ word (vectors.tray (a .vector) s′) nowhere _ w (e′ .row); slot = w .slot ∙ e′ .slot; total = e′ .total })
 
 -- a look leaves the container as it is, so a caller keeps the state that it gave
 look-still : (k : Kind) (q : Look) (t : Tray) → (invalid k t ≡ false → Homed k t) → does k (look q) t .tray ≡ t
@@ -124,26 +126,27 @@ look-still k q t home =
     (λ r. refl)
     (λ clear. ap (λ o. o .tray) (sym (done-is k t (look q) (clear .0) (clear .1)) ∙ sym (look-done k t _ (clear .0) (home (clear .0)) q (clear .1) refl)))
 
-looked : (m x k n word : ℕ) (t′ t : Tray) (kind : Kind) (q : Look) → (invalid kind t ≡ false → Homed kind t) → Worded m x k n word
-    → n ≡ reported kind (look q) t → record { number = m; value = x; moves = k; tray = t′; cursor = nowhere } ≡ does kind (look q) t → Hears kind (look q) t word t
-looked m x k n word t′ t kind q home w reports e = record {
+looked : (m x k n word : ℕ) (t′ : Tray) (b : Held) (kind : Kind) (q : Look) → (invalid kind (b .tray) ≡ false → Homed kind (b .tray)) → b .total < 2 ^ 64 → Worded m x k n word
+    → n ≡ reported kind (look q) (b .tray) → record { number = m; value = x; moves = k; tray = t′; cursor = nowhere } ≡ does kind (look q) (b .tray) → Hears kind (look q) b word b
+looked m x k n word t′ b kind q home small w reports e = record {
   row =
-      heard-at m x k n word t nowhere _ w
-      (ap (λ t. record { number = m; value = x; moves = k; tray = t; cursor = nowhere }) (sym (look-still kind q t home) ∙ sym (ap (λ o. o .tray) e)) ∙ e);
+      heard-at m x k n word (b .tray) nowhere _ w
+      (ap (λ t. record { number = m; value = x; moves = k; tray = t; cursor = nowhere }) (sym (look-still kind q (b .tray) home) ∙ sym (ap (λ o. o .tray) e)) ∙ e);
   slot = w .slot ∙ reports;
+  total = same-total kind (look q) (b .tray) _ (b .total) refl (look-still kind q (b .tray) home) small;
 }
 
-pub ring-looked : (q : Look) (st s : List ℕ) (r : Ring) (a : ringAnswer.Answer) (word : ℕ) → r ≡ ringIn st → rings.Meets (look q) r s a s
+pub ring-looked : (q : Look) (st s : List ℕ) (r : Ring) (a : ringAnswer.Answer) (word : ℕ) → r ≡ ringIn st → r .total .sum < 2 ^ 64 → rings.Meets (look q) r s a s
     → Worded (a .number) (a .value) (a .moves) (a .slot) word → Hears ring (look q) (ringOf st s) word (ringOf st s)
-ring-looked q st s r a word er e w =
+ring-looked q st s r a word er small e w =
     let e′ : rings.Meets (look q) (ringIn st) s a s = rw er at e in
-    looked _ _ _ _ word _ (ringOf st s) ring q (homed (ringOf st s)) w (e′ .slot) (e′ .row)
+    looked _ _ _ _ word _ (ringOf st s) ring q (homed (ringTray st s)) (rw er at small) w (e′ .slot) (e′ .row)
 
-pub vector-looked : (q : Look) (n : ℕ) (s : List ℕ) (v : Vector) (a : vectorAnswer.Answer) (word : ℕ) → v ≡ vectorIn n → vectors.Meets (look q) v s a s
-    → Worded (a .number) (a .value) (a .moves) (a .slot) word → Hears vector (look q) (vectorOf n s) word (vectorOf n s)
-vector-looked q n s v a word ev e w =
-    let e′ : vectors.Meets (look q) (vectorIn n) s a s = rw ev at e in
-    looked _ _ _ _ word _ (vectorOf n s) vector q (λ ok. refl) w (e′ .slot) (e′ .row)
+pub vector-looked : (q : Look) (st s : List ℕ) (v : Vector) (a : vectorAnswer.Answer) (word : ℕ) → v ≡ vectorIn st → v .total .sum < 2 ^ 64 → vectors.Meets (look q) v s a s
+    → Worded (a .number) (a .value) (a .moves) (a .slot) word → Hears vector (look q) (vectorOf st s) word (vectorOf st s)
+vector-looked q st s v a word ev small e w =
+    let e′ : vectors.Meets (look q) (vectorIn st) s a s = rw ev at e in
+    looked _ _ _ _ word _ (vectorOf st s) vector q (λ ok. refl) (rw ev at small) w (e′ .slot) (e′ .row)
 
 -- on two rings
 pub rings-hear : (call : Call2) (st ot st′ ot′ s z s′ z′ : List ℕ) (r t : Ring) (a : Both) (word : ℕ) → r ≡ ringIn st → t ≡ ringIn ot
@@ -151,7 +154,12 @@ pub rings-hear : (call : Call2) (st ot st′ ot′ s z s′ z′ : List ℕ) (r 
     → Hears2 ring ring call (ringOf st s) (ringOf ot z) word (ringOf st′ s′) (ringOf ot′ z′)
 rings-hear call st ot st′ ot′ s z s′ z′ r t a word er et e es eo w =
     let e′ : pairs.Meets call (ringIn st) s (ringIn ot) z a s′ z′ = rw (er, et) at e in
-    rw (es, eo) (record { row = heard2-is _ _ _ _ word (rings.tray (a .first) s′) (rings.tray (a .second) z′) _ w (e′ .row); slot = w .slot ∙ e .slot })
+    rw (es, eo) (record {
+      row = heard2-is _ _ _ _ word (rings.tray (a .first) s′) (rings.tray (a .second) z′) _ w (e′ .row);
+      slot = w .slot ∙ e .slot;
+      total = e′ .total;
+      total2 = e′ .total2;
+    })
 
 -- a container whose list and head stay is as it was
 pub unmoved : (k : Kind) (t : Tray) → invalid k t ≡ false → Homed k t → relay k t (list k t) (t .head) ≡ t
@@ -168,15 +176,18 @@ clone-still k k2 t t2 home =
     (λ r. refl)
     (λ clear. unmoved k t (clear .0) (home (clear .0)))
 
-pub rings-cloned : (st ot ot′ s z z′ : List ℕ) (r t : Ring) (a : Both) (word : ℕ) → r ≡ ringIn st → t ≡ ringIn ot
+pub rings-cloned : (st ot ot′ s z z′ : List ℕ) (r t : Ring) (a : Both) (word : ℕ) → r ≡ ringIn st → r .total .sum < 2 ^ 64 → t ≡ ringIn ot
     → pairs.Meets clone r s t z a s z′ → ot′ ≡ ringOut (a .second) → Worded (a .number) (a .value) (a .moves) (a .slot) word
     → Hears2 ring ring clone (ringOf st s) (ringOf ot z) word (ringOf st s) (ringOf ot′ z′)
-rings-cloned st ot ot′ s z z′ r t a word er et e eo w =
+rings-cloned st ot ot′ s z z′ r t a word er small et e eo w =
     let e′ : pairs.Meets clone (ringIn st) s (ringIn ot) z a s z′ = rw (er, et) at e in
-    let kept : rings.tray (a .first) s ≡ ringOf st s = ap (λ (o : Outcome2). o .first) (e′ .row) ∙ clone-still ring ring (ringOf st s) (ringOf ot z) (homed (ringOf st s)) in
+    let still = clone-still ring ring (ringTray st s) (ringTray ot z) (homed (ringTray st s)) in
+    let kept : rings.tray (a .first) s ≡ ringTray st s = ap (λ (o : Outcome2). o .first) (e′ .row) ∙ still in
     rw eo (record {
       row =
-          heard2-is _ _ _ _ word (ringOf st s) (rings.tray (a .second) z′) _ w
+          heard2-is _ _ _ _ word (ringTray st s) (rings.tray (a .second) z′) _ w
           (ap (λ t. record { number = a .number; value = a .value; moves = a .moves; first = t; second = rings.tray (a .second) z′; cursor = nowhere }) (sym kept) ∙ e′ .row);
       slot = w .slot ∙ e .slot;
+      total = first-same ring ring clone (ringTray st s) (ringTray ot z) _ _ (ringIn ot .total .sum) refl still (rw er at small);
+      total2 = e′ .total2;
     })

@@ -1,4 +1,4 @@
--- How a caller in C reads a call: the state is two numbers, or one, and the answer is one word; and what an exported call promises.
+-- How a caller in C reads a call: the state is three numbers, or two, and the answer is one word; and what an exported call promises.
 use Prim.Native.Nat.{ℕ, _/_, _%_}
 use mathlib.Core.Path.{_≡_}
 use mathlib.Core.List.{List, [], _∷_}
@@ -8,6 +8,8 @@ use Rattle.table.specs.Tray.{Tray, Cursor, nowhere}
 use Rattle.table.specs.Calls.{Call, Call2, Look, look}
 use Rattle.table.specs.Does.{Outcome, Outcome2, does, does2}
 use Rattle.table.specs.Reported.{noSlot, reported}
+use Rattle.table.specs.Totals.{totalAfter, totalFirst, totalSecond}
+use Rattle.runs.specs.Width.{summing}
 use Rattle.ring.specs.declared.Ring.{Ring}
 use Rattle.ring.specs.Seen as rings
 use Rattle.vector.specs.declared.Vector.{Vector}
@@ -26,25 +28,35 @@ movesIn word = word / 4294967296 / 65536 % 4096
 abbrev pub numberIn : ℕ → ℕ
 numberIn word = word / 4294967296 / 65536 / 4096
 
--- a ring's state is its head and its length, a vector's its length: how it goes in, and how it comes out
+-- a ring's state is its head, its length and its total, a vector's its length and its total: how it goes in, and how it comes out
 abbrev pub ringIn : List ℕ → Ring
-ringIn state = rings.state (getD state 0 0) (getD state 1 0)
+ringIn state = rings.state (getD state 0 0) (getD state 1 0) (summing (getD state 2 0))
 
 abbrev pub ringOut : Ring → List ℕ
-ringOut r = r .head ∷ r .len ∷ []
+ringOut r = r .head ∷ r .len ∷ r .total .sum ∷ []
 
-abbrev pub vectorIn : ℕ → Vector
-vectorIn state = vectors.state state
+abbrev pub vectorIn : List ℕ → Vector
+vectorIn state = vectors.state (getD state 0 0) (summing (getD state 1 0))
 
-abbrev pub vectorOut : Vector → ℕ
-vectorOut v = v .len
+abbrev pub vectorOut : Vector → List ℕ
+vectorOut v = v .len ∷ v .total .sum ∷ []
 
--- a container, by its state and its slots
-abbrev pub ringOf : (state slots : List ℕ) → Tray
-ringOf state slots = rings.tray (ringIn state) slots
+-- a container, by its state and its slots: its tray, and beside it the total that the state keeps
+pub record Held : Type 0 where
+  pub tray : Tray
+  pub total : ℕ
 
-abbrev pub vectorOf : (state : ℕ) (slots : List ℕ) → Tray
-vectorOf state slots = vectors.tray (vectorIn state) slots
+abbrev pub ringTray : (state slots : List ℕ) → Tray
+ringTray state slots = rings.tray (ringIn state) slots
+
+abbrev pub ringOf : (state slots : List ℕ) → Held
+ringOf state slots = record { tray = ringTray state slots; total = ringIn state .total .sum }
+
+abbrev pub vectorTray : (state slots : List ℕ) → Tray
+vectorTray state slots = vectors.tray (vectorIn state) slots
+
+abbrev pub vectorOf : (state slots : List ℕ) → Held
+vectorOf state slots = record { tray = vectorTray state slots; total = vectorIn state .total .sum }
 
 -- a cursor is its front and its back
 abbrev pub cursorOf : List ℕ → Cursor
@@ -60,20 +72,23 @@ heard word t = heardAt word t nowhere
 abbrev pub heard2 : (word : ℕ) → (t t2 : Tray) → Outcome2
 heard2 word t t2 = record { number = numberIn word; value = valueIn word; moves = movesIn word; first = t; second = t2; cursor = nowhere }
 
--- The promise of an exported call: its word and the container afterwards are its row, and the word has the slot that the call reports.
-pub record Hears (k : Kind) (call : Call) (before : Tray) (word : ℕ) (after : Tray) : Type 0 where
-  pub row : heard word after ≡ does k call before
-  pub slot : slotIn word ≡ reported k call before
+-- The promise of an exported call: its word and the container afterwards are its row; the word has the slot that the call reports, and the state the total.
+pub record Hears (k : Kind) (call : Call) (before : Held) (word : ℕ) (after : Held) : Type 0 where
+  pub row : heard word (after .tray) ≡ does k call (before .tray)
+  pub slot : slotIn word ≡ reported k call (before .tray)
+  pub total : after .total ≡ totalAfter k call (before .tray) (before .total)
 
--- of a step of a cursor, which comes to be u: it reports no slot
-pub record HearsAt (k : Kind) (q : Look) (t : Tray) (word : ℕ) (u : Cursor) : Type 0 where
-  pub row : heardAt word t u ≡ does k (look q) t
+-- of a step of a cursor, which comes to be u: it reports no slot, and leaves the state
+pub record HearsAt (k : Kind) (q : Look) (b : Held) (word : ℕ) (u : Cursor) : Type 0 where
+  pub row : heardAt word (b .tray) u ≡ does k (look q) (b .tray)
   pub slot : slotIn word ≡ noSlot
 
--- of a call on two, likewise
-pub record Hears2 (k k2 : Kind) (call : Call2) (before before2 : Tray) (word : ℕ) (after after2 : Tray) : Type 0 where
-  pub row : heard2 word after after2 ≡ does2 k k2 call before before2
+-- of a call on two: it reports no slot
+pub record Hears2 (k k2 : Kind) (call : Call2) (before before2 : Held) (word : ℕ) (after after2 : Held) : Type 0 where
+  pub row : heard2 word (after .tray) (after2 .tray) ≡ does2 k k2 call (before .tray) (before2 .tray)
   pub slot : slotIn word ≡ noSlot
+  pub total : after .total ≡ totalFirst k k2 call (before .tray) (before2 .tray) (before .total)
+  pub total2 : after2 .total ≡ totalSecond k k2 call (before .tray) (before2 .tray) (before2 .total)
 
 -- what the private function `word` makes
 pub record Worded (m x k n word : ℕ) : Type 0 where

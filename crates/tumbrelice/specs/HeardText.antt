@@ -2,17 +2,18 @@
 use Prim.Native.Nat.{ℕ}
 use mathlib.Core.Path.{_≡_}
 use mathlib.Core.List.{List}
-use Rattle.table.specs.Tray.{Tray}
 use Rattle.table.specs.Reported.{noSlot}
 use Rattle.record.specs.declared.texts.Told.{Told}
-use Rattle.record.specs.Recorded.{told, judges, records}
+use Rattle.record.specs.Recorded.{told, judges, records, totalStarts, totalEnds}
 use Rattle.record.specs.Unquoted.{unquoted, unquotes}
-use Rattle.tumbrelice.specs.Heard.{valueIn, slotIn, movesIn, numberIn, heard2}
+use Rattle.tumbrelice.specs.Heard.{valueIn, slotIn, movesIn, numberIn, heard2, Held}
 
--- of a record read onto two vectors: its word and both vectors afterwards are what `records` says; here and below no slot is reported
-pub record HearsRecord (text : List ℕ) (before before2 : Tray) (word : ℕ) (after after2 : Tray) : Type 0 where
-  pub row : heard2 word after after2 ≡ records text before before2
+-- of a record read onto two vectors: its word, both vectors afterwards and their totals are what `records` says; here and below no slot is reported
+pub record HearsRecord (text : List ℕ) (before before2 : Held) (word : ℕ) (after after2 : Held) : Type 0 where
+  pub row : heard2 word (after .tray) (after2 .tray) ≡ records text (before .tray) (before2 .tray)
   pub slot : slotIn word ≡ noSlot
+  pub total : after .total ≡ totalStarts text (before .tray) (before2 .tray) (before .total)
+  pub total2 : after2 .total ≡ totalEnds text (before .tray) (before2 .tray) (before2 .total)
 
 -- a word as an answer on a text alone
 abbrev pub heardTold : (word : ℕ) → Told

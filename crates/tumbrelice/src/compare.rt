@@ -9,9 +9,9 @@ ghost use Rattle.tumbrelice.specs.Heard.{Hears2, ringOf, vectorOf};
 #[no_mangle]
 pub extern "C" fn tum_ring_same(
     slots: &[u32],
-    state: &[usize; 2],
+    state: &[u64; 3],
     theirs: &[u32],
-    other: &[usize; 2],
+    other: &[u64; 3],
 ) -> u64
     ensures { λ r. ⌜ Hears2 ring ring same (ringOf (now (state .entry)) (now (slots .entry))) (ringOf (now (other .entry)) (now (theirs .entry))) r (ringOf (now (state .entry)) (now (slots .entry))) (ringOf (now (other .entry)) (now (theirs .entry))) ⌝ }
 {
@@ -24,9 +24,9 @@ pub extern "C" fn tum_ring_same(
 #[no_mangle]
 pub extern "C" fn tum_vector_equal(
     slots: &[u32],
-    state: &usize,
+    state: &[u64; 2],
     theirs: &[u32],
-    other: &usize,
+    other: &[u64; 2],
 ) -> u64
     ensures { λ r. ⌜ Hears2 vector vector same (vectorOf (now (state .entry)) (now (slots .entry))) (vectorOf (now (other .entry)) (now (theirs .entry))) r (vectorOf (now (state .entry)) (now (slots .entry))) (vectorOf (now (other .entry)) (now (theirs .entry))) ⌝ }
 {
@@ -39,9 +39,9 @@ pub extern "C" fn tum_vector_equal(
 #[no_mangle]
 pub extern "C" fn tum_ring_same_as_vector(
     slots: &[u32],
-    state: &[usize; 2],
+    state: &[u64; 3],
     theirs: &[u32],
-    other: &usize,
+    other: &[u64; 2],
 ) -> u64
     ensures { λ r. ⌜ Hears2 ring vector same (ringOf (now (state .entry)) (now (slots .entry))) (vectorOf (now (other .entry)) (now (theirs .entry))) r (ringOf (now (state .entry)) (now (slots .entry))) (vectorOf (now (other .entry)) (now (theirs .entry))) ⌝ }
 {

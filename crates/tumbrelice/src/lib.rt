@@ -1,5 +1,6 @@
-// The calls as C or Rust may link them. A container's state is passed by pointer, its slots as a pointer and their number. The answer is one
-// word, packed by what can occur: the value in the low 32 bits, the slot in the next 16, the moves in the next 12, the number in the high 4.
+// The calls as C or Rust may link them. A container's state is passed by a pointer to its numbers, 64 bits each: a ring's are head, length and total, a vector's
+// length and total. Slots go in as a pointer and their number. The answer is one word, packed by what can occur: the value in the low 32 bits, the slot in the next
+// 16, the moves in the next 12, the number in the high 4.
 pub mod rings; // rings.rt: the calls on a ring
 pub mod vectors; // vectors.rt: the calls on a vector
 pub mod two; // two.rt: the calls that change two rings
@@ -8,34 +9,39 @@ pub mod walks; // walks.rt: a cursor over a ring
 pub mod records; // records.rt: a record of comma-separated text
 
 use ring::Ring;
+use runs::total::Total;
 use vector::Vector;
 ghost use mathlib.Core.Path.{_≡_};
-ghost use Prim.Native.Nat.{_<_};
+ghost use Prim.Native.Nat.{_^_, _<_};
 ghost use Rattle.tumbrelice.specs.Heard.{Worded, ringIn, ringOut, vectorIn, vectorOut};
 
-// A ring's state goes in and comes out here, and a vector's below.
-fn ring_in(state: &[usize; 2]) -> Ring
-    ensures { λ r. ⌜ r ≡ ringIn (now (state .entry)) ⌝ }
+// A ring's state goes in and comes out here, and a vector's below. That a total has 64 bits is said too, since a proof would have to look far for it.
+fn ring_in(state: &[u64; 3]) -> Ring
+    ensures { λ r. ⌜ (r ≡ ringIn (now (state .entry))) × (r .total .sum < 2 ^ 64) ⌝ }
 {
-    ring::state(state[0], state[1])
+    let sum = state[2];
+    ring::state(state[0] as usize, state[1] as usize, Total { sum })
 }
 
-fn ring_out(state: &mut [usize; 2], r: Ring)
+fn ring_out(state: &mut [u64; 3], r: Ring)
     ensures { λ _. ⌜ now (state .exit) ≡ ringOut r ⌝ }
 {
-    *state = [r.head, r.len];
+    let total = r.total;
+    *state = [r.head as u64, r.len as u64, total.sum];
 }
 
-fn vector_in(state: &usize) -> Vector
-    ensures { λ r. ⌜ r ≡ vectorIn (now (state .entry)) ⌝ }
+fn vector_in(state: &[u64; 2]) -> Vector
+    ensures { λ r. ⌜ (r ≡ vectorIn (now (state .entry))) × (r .total .sum < 2 ^ 64) ⌝ }
 {
-    vector::state(*state)
+    let sum = state[1];
+    vector::state(state[0] as usize, Total { sum })
 }
 
-fn vector_out(state: &mut usize, v: Vector)
+fn vector_out(state: &mut [u64; 2], v: Vector)
     ensures { λ _. ⌜ now (state .exit) ≡ vectorOut v ⌝ }
 {
-    *state = v.len;
+    let total = v.total;
+    *state = [v.len as u64, total.sum];
 }
 
 // Every answer is put together here. One that is done goes a way of its own, so that a call's end is not shared with its refusals.

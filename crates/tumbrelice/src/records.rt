@@ -9,9 +9,9 @@ ghost use Rattle.tumbrelice.specs.HeardText.{HearsRecord, HearsTold, Hea
 pub extern "C" fn tum_record_read(
     text: &[u8],
     slots: &mut [u32],
-    state: &mut usize,
+    state: &mut [u64; 2],
     theirs: &mut [u32],
-    other: &mut usize,
+    other: &mut [u64; 2],
 ) -> u64
     ensures { λ r. ⌜ HearsRecord (now (text .entry)) (vectorOf (now (state .entry)) (now (slots .entry))) (vectorOf (now (other .entry)) (now (theirs .entry))) r (vectorOf (now (state .exit)) (now (slots .exit))) (vectorOf (now (other .exit)) (now (theirs .exit))) ⌝ }
 {

@@ -1,4 +1,4 @@
-// The calls on a ring. Its state is its head, then its length.
+// The calls on a ring. Its state is its head, its length, its total.
 use super::ring_in;
 use super::ring_out;
 use super::word;
@@ -7,7 +7,7 @@ ghost use Rattle.table.specs.Calls.{push, pushFront, pop, popFront, insert, rem
 ghost use Rattle.tumbrelice.specs.Heard.{Hears, ringOf};
 
 #[no_mangle]
-pub extern "C" fn tum_ring_push_back(slots: &mut [u32], state: &mut [usize; 2], x: u32) -> u64
+pub extern "C" fn tum_ring_push_back(slots: &mut [u32], state: &mut [u64; 3], x: u32) -> u64
     ensures { λ r. ⌜ Hears ring (push x) (ringOf (now (state .entry)) (now (slots .entry))) r (ringOf (now (state .exit)) (now (slots .exit))) ⌝ }
 {
     let r = ring_in(state);
@@ -17,7 +17,7 @@ pub extern "C" fn tum_ring_push_back(slots: &mut [u32], state: &mut [usize; 2], 
 }
 
 #[no_mangle]
-pub extern "C" fn tum_ring_push_front(slots: &mut [u32], state: &mut [usize; 2], x: u32) -> u64
+pub extern "C" fn tum_ring_push_front(slots: &mut [u32], state: &mut [u64; 3], x: u32) -> u64
     ensures { λ r. ⌜ Hears ring (pushFront x) (ringOf (now (state .entry)) (now (slots .entry))) r (ringOf (now (state .exit)) (now (slots .exit))) ⌝ }
 {
     let r = ring_in(state);
@@ -27,7 +27,7 @@ pub extern "C" fn tum_ring_push_front(slots: &mut [u32], state: &mut [usize; 2],
 }
 
 #[no_mangle]
-pub extern "C" fn tum_ring_pop_back(slots: &mut [u32], state: &mut [usize; 2]) -> u64
+pub extern "C" fn tum_ring_pop_back(slots: &mut [u32], state: &mut [u64; 3]) -> u64
     ensures { λ r. ⌜ Hears ring pop (ringOf (now (state .entry)) (now (slots .entry))) r (ringOf (now (state .exit)) (now (slots .exit))) ⌝ }
 {
     let r = ring_in(state);
@@ -37,7 +37,7 @@ pub extern "C" fn tum_ring_pop_back(slots: &mut [u32], state: &mut [usize; 2]) -
 }
 
 #[no_mangle]
-pub extern "C" fn tum_ring_pop_front(slots: &mut [u32], state: &mut [usize; 2]) -> u64
+pub extern "C" fn tum_ring_pop_front(slots: &mut [u32], state: &mut [u64; 3]) -> u64
     ensures { λ r. ⌜ Hears ring popFront (ringOf (now (state .entry)) (now (slots .entry))) r (ringOf (now (state .exit)) (now (slots .exit))) ⌝ }
 {
     let r = ring_in(state);
@@ -47,12 +47,7 @@ pub extern "C" fn tum_ring_pop_front(slots: &mut [u32], state: &mut [usize; 2]) 
 }
 
 #[no_mangle]
-pub extern "C" fn tum_ring_insert(
-    slots: &mut [u32],
-    state: &mut [usize; 2],
-    i: usize,
-    x: u32,
-) -> u64
+pub extern "C" fn tum_ring_insert(slots: &mut [u32], state: &mut [u64; 3], i: usize, x: u32) -> u64
     ensures { λ r. ⌜ Hears ring (insert i x) (ringOf (now (state .entry)) (now (slots .entry))) r (ringOf (now (state .exit)) (now (slots .exit))) ⌝ }
 {
     let r = ring_in(state);
@@ -62,7 +57,7 @@ pub extern "C" fn tum_ring_insert(
 }
 
 #[no_mangle]
-pub extern "C" fn tum_ring_remove(slots: &mut [u32], state: &mut [usize; 2], i: usize) -> u64
+pub extern "C" fn tum_ring_remove(slots: &mut [u32], state: &mut [u64; 3], i: usize) -> u64
     ensures { λ r. ⌜ Hears ring (remove i) (ringOf (now (state .entry)) (now (slots .entry))) r (ringOf (now (state .exit)) (now (slots .exit))) ⌝ }
 {
     let r = ring_in(state);
@@ -72,12 +67,7 @@ pub extern "C" fn tum_ring_remove(slots: &mut [u32], state: &mut [usize; 2], i: 
 }
 
 #[no_mangle]
-pub extern "C" fn tum_ring_resize(
-    slots: &mut [u32],
-    state: &mut [usize; 2],
-    k: usize,
-    x: u32,
-) -> u64
+pub extern "C" fn tum_ring_resize(slots: &mut [u32], state: &mut [u64; 3], k: usize, x: u32) -> u64
     ensures { λ r. ⌜ Hears ring (resize k x) (ringOf (now (state .entry)) (now (slots .entry))) r (ringOf (now (state .exit)) (now (slots .exit))) ⌝ }
 {
     let r = ring_in(state);
@@ -87,7 +77,7 @@ pub extern "C" fn tum_ring_resize(
 }
 
 #[no_mangle]
-pub extern "C" fn tum_ring_clear(slots: &mut [u32], state: &mut [usize; 2]) -> u64
+pub extern "C" fn tum_ring_clear(slots: &mut [u32], state: &mut [u64; 3]) -> u64
     ensures { λ r. ⌜ Hears ring clear (ringOf (now (state .entry)) (now (slots .entry))) r (ringOf (now (state .exit)) (now (slots .exit))) ⌝ }
 {
     let r = ring_in(state);
@@ -97,7 +87,7 @@ pub extern "C" fn tum_ring_clear(slots: &mut [u32], state: &mut [usize; 2]) -> u
 }
 
 #[no_mangle]
-pub extern "C" fn tum_ring_read(slots: &[u32], state: &[usize; 2], i: usize) -> u64
+pub extern "C" fn tum_ring_read(slots: &[u32], state: &[u64; 3], i: usize) -> u64
     ensures { λ r. ⌜ Hears ring (look (read i)) (ringOf (now (state .entry)) (now (slots .entry))) r (ringOf (now (state .entry)) (now (slots .entry))) ⌝ }
 {
     let r = ring_in(state);

@@ -9,9 +9,9 @@ ghost use Rattle.tumbrelice.specs.Heard.{Hears2, ringOf};
 #[no_mangle]
 pub extern "C" fn tum_ring_append(
     slots: &mut [u32],
-    state: &mut [usize; 2],
+    state: &mut [u64; 3],
     theirs: &mut [u32],
-    other: &mut [usize; 2],
+    other: &mut [u64; 3],
 ) -> u64
     ensures { λ r. ⌜ Hears2 ring ring append (ringOf (now (state .entry)) (now (slots .entry))) (ringOf (now (other .entry)) (now (theirs .entry))) r (ringOf (now (state .exit)) (now (slots .exit))) (ringOf (now (other .exit)) (now (theirs .exit))) ⌝ }
 {
@@ -26,9 +26,9 @@ pub extern "C" fn tum_ring_append(
 #[no_mangle]
 pub extern "C" fn tum_ring_clone(
     slots: &[u32],
-    state: &[usize; 2],
+    state: &[u64; 3],
     theirs: &mut [u32],
-    other: &mut [usize; 2],
+    other: &mut [u64; 3],
 ) -> u64
     ensures { λ r. ⌜ Hears2 ring ring clone (ringOf (now (state .entry)) (now (slots .entry))) (ringOf (now (other .entry)) (now (theirs .entry))) r (ringOf (now (state .entry)) (now (slots .entry))) (ringOf (now (other .exit)) (now (theirs .exit))) ⌝ }
 {

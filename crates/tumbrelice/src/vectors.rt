@@ -1,4 +1,4 @@
-// The calls on a vector. Its state is its length.
+// The calls on a vector. Its state is its length, its total.
 use super::vector_in;
 use super::vector_out;
 use super::word;
@@ -7,7 +7,7 @@ ghost use Rattle.table.specs.Calls.{push, pop, insert, remove, swapRemove, trun
 ghost use Rattle.tumbrelice.specs.Heard.{Hears, vectorOf};
 
 #[no_mangle]
-pub extern "C" fn tum_vector_push(slots: &mut [u32], state: &mut usize, x: u32) -> u64
+pub extern "C" fn tum_vector_push(slots: &mut [u32], state: &mut [u64; 2], x: u32) -> u64
     ensures { λ r. ⌜ Hears vector (push x) (vectorOf (now (state .entry)) (now (slots .entry))) r (vectorOf (now (state .exit)) (now (slots .exit))) ⌝ }
 {
     let v = vector_in(state);
@@ -17,7 +17,7 @@ pub extern "C" fn tum_vector_push(slots: &mut [u32], state: &mut usize, x: u32) 
 }
 
 #[no_mangle]
-pub extern "C" fn tum_vector_pop(slots: &mut [u32], state: &mut usize) -> u64
+pub extern "C" fn tum_vector_pop(slots: &mut [u32], state: &mut [u64; 2]) -> u64
     ensures { λ r. ⌜ Hears vector pop (vectorOf (now (state .entry)) (now (slots .entry))) r (vectorOf (now (state .exit)) (now (slots .exit))) ⌝ }
 {
     let v = vector_in(state);
@@ -27,7 +27,12 @@ pub extern "C" fn tum_vector_pop(slots: &mut [u32], state: &mut usize) -> u64
 }
 
 #[no_mangle]
-pub extern "C" fn tum_vector_insert(slots: &mut [u32], state: &mut usize, i: usize, x: u32) -> u64
+pub extern "C" fn tum_vector_insert(
+    slots: &mut [u32],
+    state: &mut [u64; 2],
+    i: usize,
+    x: u32,
+) -> u64
     ensures { λ r. ⌜ Hears vector (insert i x) (vectorOf (now (state .entry)) (now (slots .entry))) r (vectorOf (now (state .exit)) (now (slots .exit))) ⌝ }
 {
     let v = vector_in(state);
@@ -37,7 +42,7 @@ pub extern "C" fn tum_vector_insert(slots: &mut [u32], state: &mut usize, i: usi
 }
 
 #[no_mangle]
-pub extern "C" fn tum_vector_remove(slots: &mut [u32], state: &mut usize, i: usize) -> u64
+pub extern "C" fn tum_vector_remove(slots: &mut [u32], state: &mut [u64; 2], i: usize) -> u64
     ensures { λ r. ⌜ Hears vector (remove i) (vectorOf (now (state .entry)) (now (slots .entry))) r (vectorOf (now (state .exit)) (now (slots .exit))) ⌝ }
 {
     let v = vector_in(state);
@@ -47,7 +52,7 @@ pub extern "C" fn tum_vector_remove(slots: &mut [u32], state: &mut usize, i: usi
 }
 
 #[no_mangle]
-pub extern "C" fn tum_vector_swap_remove(slots: &mut [u32], state: &mut usize, i: usize) -> u64
+pub extern "C" fn tum_vector_swap_remove(slots: &mut [u32], state: &mut [u64; 2], i: usize) -> u64
     ensures { λ r. ⌜ Hears vector (swapRemove i) (vectorOf (now (state .entry)) (now (slots .entry))) r (vectorOf (now (state .exit)) (now (slots .exit))) ⌝ }
 {
     let v = vector_in(state);
@@ -57,7 +62,7 @@ pub extern "C" fn tum_vector_swap_remove(slots: &mut [u32], state: &mut usize, i
 }
 
 #[no_mangle]
-pub extern "C" fn tum_vector_truncate(slots: &mut [u32], state: &mut usize, k: usize) -> u64
+pub extern "C" fn tum_vector_truncate(slots: &mut [u32], state: &mut [u64; 2], k: usize) -> u64
     ensures { λ r. ⌜ Hears vector (truncate k) (vectorOf (now (state .entry)) (now (slots .entry))) r (vectorOf (now (state .exit)) (now (slots .exit))) ⌝ }
 {
     let v = vector_in(state);
@@ -69,7 +74,7 @@ pub extern "C" fn tum_vector_truncate(slots: &mut [u32], state: &mut usize, k: u
 #[no_mangle]
 pub extern "C" fn tum_vector_extend_from_slice(
     slots: &mut [u32],
-    state: &mut usize,
+    state: &mut [u64; 2],
     s: &[u32],
 ) -> u64
     ensures { λ r. ⌜ Hears vector (extend (now (s .entry))) (vectorOf (now (state .entry)) (now (slots .entry))) r (vectorOf (now (state .exit)) (now (slots .exit))) ⌝ }
@@ -81,7 +86,7 @@ pub extern "C" fn tum_vector_extend_from_slice(
 }
 
 #[no_mangle]
-pub extern "C" fn tum_vector_read(slots: &[u32], state: &usize, i: usize) -> u64
+pub extern "C" fn tum_vector_read(slots: &[u32], state: &[u64; 2], i: usize) -> u64
     ensures { λ r. ⌜ Hears vector (look (read i)) (vectorOf (now (state .entry)) (now (slots .entry))) r (vectorOf (now (state .entry)) (now (slots .entry))) ⌝ }
 {
     let v = vector_in(state);

@@ -10,7 +10,7 @@ ghost use Rattle.tumbrelice.specs.Heard.{HearsAt, ringOf, cursorOf};
 #[no_mangle]
 pub extern "C" fn tum_ring_step_front(
     slots: &[u32],
-    state: &[usize; 2],
+    state: &[u64; 3],
     cursor: &mut [usize; 2],
 ) -> u64
     ensures { λ r. ⌜ HearsAt ring (stepFront (cursorOf (now (cursor .entry)))) (ringOf (now (state .entry)) (now (slots .entry))) r (cursorOf (now (cursor .exit))) ⌝ }

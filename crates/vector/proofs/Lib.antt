@@ -6,3 +6,4 @@ pub mod Once
 pub mod Upstream
 pub mod UpstreamParts
 pub mod Lamp
+pub mod Sum

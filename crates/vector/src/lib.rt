@@ -2,12 +2,17 @@
 pub mod looks; // looks.rt: the makings, and the calls that change nothing
 pub mod parts; // parts.rt: the parts of the slots that are lent on
 
+use runs::total;
+use runs::total::Total;
 ghost use mathlib.Core.Path.{_≡_};
 ghost use Rattle.table.specs.Calls.{write, push, pop, insert, remove, swapRemove, truncate, resize, clear, extend};
+ghost use Rattle.slots.specs.Total.{changed};
+ghost use Rattle.runs.specs.Width.{summing};
 ghost use Rattle.vector.specs.Seen.{Meets, state, says, lit};
 
 pub struct Vector {
     pub len: usize,
+    pub total: Total,
 }
 
 pub struct Answer {
@@ -32,7 +37,8 @@ impl Vector {
         }
         let old = slots[i];
         slots[i] = x;
-        lit(i, shows(old, self))
+        let total = total::traded(self.total, x, old);
+        lit(i, done(old, 0, len, total))
     }
 
     pub fn push(self, slots: &mut [u32], x: u32) -> Answer
@@ -47,7 +53,7 @@ impl Vector {
             return refused(6, self);
         }
         slots[len] = x;
-        lit(len, done(0, 0, len + 1))
+        lit(len, entered(x, 0, len + 1, self.total))
     }
 
     pub fn pop(self, slots: &mut [u32]) -> Answer
@@ -64,7 +70,7 @@ impl Vector {
         let last = len - 1;
         let old = slots[last];
         slots[last] = 0;
-        lit(last, done(old, 0, last))
+        lit(last, took(old, 0, last, self.total))
     }
 
     pub fn insert(self, slots: &mut [u32], i: usize, x: u32) -> Answer
@@ -83,7 +89,7 @@ impl Vector {
         }
         runs::run_up(slots, i, len);
         slots[i] = x;
-        lit(i, done(0, len - i, len + 1))
+        lit(i, entered(x, len - i, len + 1, self.total))
     }
 
     pub fn remove(self, slots: &mut [u32], i: usize) -> Answer
@@ -101,7 +107,7 @@ impl Vector {
         let old = slots[i];
         runs::run_down(slots, i, last);
         slots[last] = 0;
-        lit(i, done(old, last - i, last))
+        lit(i, took(old, last - i, last, self.total))
     }
 
     // The last entry, where it is the one removed, is not stored back.
@@ -120,11 +126,11 @@ impl Vector {
         let old = slots[i];
         if i == last {
             slots[last] = 0;
-            return lit(i, done(old, 0, last));
+            return lit(i, took(old, 0, last, self.total));
         }
         slots[i] = slots[last];
         slots[last] = 0;
-        lit(i, done(old, 1, last))
+        lit(i, took(old, 1, last, self.total))
     }
 
     pub fn truncate(self, slots: &mut [u32], k: usize) -> Answer
@@ -138,8 +144,9 @@ impl Vector {
         if len <= k {
             return shows(0, self);
         }
+        let total = total::less(self.total, total::run(slots, k, len));
         runs::run_fill(slots, k, len, 0);
-        done(0, 0, k)
+        done(0, 0, k, total)
     }
 
     pub fn resize(self, slots: &mut [u32], k: usize, x: u32) -> Answer
@@ -154,11 +161,13 @@ impl Vector {
             return refused(6, self);
         }
         if k < len {
+            let total = total::less(self.total, total::run(slots, k, len));
             runs::run_fill(slots, k, len, 0);
-            return done(0, 0, k);
+            return done(0, 0, k, total);
         }
+        let total = total::more(self.total, total::times(k - len, x));
         runs::run_fill(slots, len, k, x);
-        done(0, 0, k)
+        done(0, 0, k, total)
     }
 
     pub fn clear(self, slots: &mut [u32]) -> Answer
@@ -169,8 +178,9 @@ impl Vector {
         if table::invalid_vector(cap, len) {
             return refused(1, self);
         }
+        let total = total::less(self.total, total::run(slots, 0, len));
         runs::run_fill(slots, 0, len, 0);
-        done(0, 0, 0)
+        done(0, 0, 0, total)
     }
 
     // The free slots are counted, not the sum of both, which could wrap.
@@ -186,16 +196,17 @@ impl Vector {
         if cap - len < more {
             return refused(6, self);
         }
+        let total = total::more(self.total, total::part(s));
         runs::copy::run_copy(slots, len, s, more);
-        done(0, 0, len + more)
+        done(0, 0, len + more, total)
     }
 }
 
-// The state with this length: every state of a vector is put together here.
-pub fn state(len: usize) -> Vector
-    ensures { λ r. ⌜ r ≡ state len ⌝ }
+// The state with this length and total: every state of a vector is put together here.
+pub fn state(len: usize, total: Total) -> Vector
+    ensures { λ r. ⌜ r ≡ state len total ⌝ }
 {
-    Vector { len }
+    Vector { len, total }
 }
 
 // Every answer is put together here.
@@ -239,9 +250,23 @@ pub fn shows(value: u32, vector: Vector) -> Answer
     says(0, value, 0, vector)
 }
 
-// A call that is done, with the length afterwards.
-pub fn done(value: u32, moves: usize, len: usize) -> Answer
-    ensures { λ r. ⌜ r ≡ says 0 value moves (state len) ⌝ }
+// A call that is done, with the state afterwards.
+pub fn done(value: u32, moves: usize, len: usize, total: Total) -> Answer
+    ensures { λ r. ⌜ r ≡ says 0 value moves (state len total) ⌝ }
 {
-    says(0, value, moves, state(len))
+    says(0, value, moves, state(len, total))
+}
+
+// A call that is done and has put x in.
+fn entered(x: u32, moves: usize, len: usize, total: Total) -> Answer
+    ensures { λ r. ⌜ r ≡ says 0 0 moves (state len (summing (changed (total .sum) x 0))) ⌝ }
+{
+    done(0, moves, len, total::put(total, x))
+}
+
+// A call that is done and hands out the entry that it took.
+fn took(x: u32, moves: usize, len: usize, total: Total) -> Answer
+    ensures { λ r. ⌜ r ≡ says 0 x moves (state len (summing (changed (total .sum) 0 x))) ⌝ }
+{
+    done(x, moves, len, total::took(total, x))
 }

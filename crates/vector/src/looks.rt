@@ -6,6 +6,7 @@ use super::lit;
 use super::refused;
 use super::shows;
 use super::state;
+use runs::total;
 ghost use Rattle.table.specs.Calls.{new, withCapacity, fromElem, look, len, isEmpty, read, reserve, tryReserve, tryReserveExact, range};
 ghost use Rattle.vector.specs.Seen.{Meets, Makes};
 
@@ -14,9 +15,9 @@ impl Vector {
         ensures { λ r. ⌜ Makes new (now (slots .entry)) r (now (slots .entry)) ⌝ }
     {
         if slots::MOST < slots.len() {
-            return refused(1, state(0));
+            return refused(1, state(0, total::none()));
         }
-        done(0, 0, 0)
+        done(0, 0, 0, total::none())
     }
 
     pub fn with_capacity(slots: &[u32], capacity: usize) -> Answer
@@ -24,12 +25,12 @@ impl Vector {
     {
         let cap = slots.len();
         if slots::MOST < cap {
-            return refused(1, state(0));
+            return refused(1, state(0, total::none()));
         }
         if cap < capacity {
-            return refused(6, state(0));
+            return refused(6, state(0, total::none()));
         }
-        done(0, 0, 0)
+        done(0, 0, 0, total::none())
     }
 
     // The slots past k keep what they held.
@@ -38,13 +39,13 @@ impl Vector {
     {
         let cap = slots.len();
         if slots::MOST < cap {
-            return refused(1, state(0));
+            return refused(1, state(0, total::none()));
         }
         if cap < k {
-            return refused(6, state(0));
+            return refused(6, state(0, total::none()));
         }
         runs::run_fill(slots, 0, k, x);
-        done(0, 0, k)
+        done(0, 0, k, total::times(k, x))
     }
 
     pub fn len(self, slots: &[u32]) -> Answer

@@ -3,23 +3,24 @@
 use mathlib.Core.Path.{_≡_, refl, sym, ap, _∙_}
 use mathlib.Core.Bool.{Bool, true, false, not}
 use mathlib.Core.List.{List, [], _∷_, _++_}
-use Prim.Native.Nat.{ℕ, suc, _+_, _-_, _≤_, _<_}
+use Prim.Native.Nat.{ℕ, suc, _+_, _-_, _^_, _≤_, _<_}
 use native.Mathlib.Omega.{arith}
 use borrow.Author.Tests.{eq-eqb, eqb-true, ne-eqb, lt-ltb, le-ltb, ltb-false}
 use lib.Dec.{eqb, ltb}
 use lib.ListN.{length, getD, take, drop, List·getD-append, replicate}
 use lib.Seq.{sets, sets-eq, length-sets, getD-append-add, getD-drop, take-at}
-use Rattle.slots.specs.Layout.{vector, itself, relaid}
+use Rattle.slots.specs.Layout.{most, vector, itself, relaid}
 use Rattle.slots.proofs.Placing.{placing}
 use Rattle.slots.proofs.Relaid.{laid}
 use Rattle.table.specs.Tray.{nowhere}
 use Rattle.table.specs.Table.{holding}
 use Rattle.table.specs.Does.{Outcome2, refused2}
 use Rattle.table.proofs.Laws.Refusals
+use Rattle.table.proofs.Laws.Valid.{vector-facts}
 use Rattle.vector.specs.declared.Vector.{Vector}
-use Rattle.vector.specs.Seen.{tray, state}
+use Rattle.vector.specs.Seen.{tray}
 use Rattle.pairs.specs.declared.vectors.Both.{Both}
-use Rattle.pairs.specs.Vectors.{seen2, says}
+use Rattle.pairs.specs.Vectors.{says}
 use Rattle.record.specs.declared.Verdict.{Verdict}
 use Rattle.record.specs.declared.texts.Told.{Told}
 use Rattle.record.specs.Scan.{scanned}
@@ -27,6 +28,7 @@ use Rattle.record.specs.Places.{firsts, lasts}
 use Rattle.record.specs.Steps.{numberOf, placeOf, tally, Judged}
 use Rattle.record.proofs.Laws.Inside.{place-inside}
 use Rattle.record.proofs.Laws.Order.{Above, stopped, passed, None, none-holds}
+use Rattle.record.proofs.Laws.Summing.{kept-whole, reads-to, grown}
 use Rattle.record.specs.Recorded.{longest, told, judges, firstOf, earlyTests, early, lateTests, places, records, Records}
 
 -- `judge`
@@ -129,9 +131,15 @@ module _ (text : List ℕ) (first second : Vector) (s z : List ℕ) (m : ℕ) (i
   abbrev Done : Outcome2
   Done = places text (tray first s) (tray second z)
 
-  pub early-refused : (a : Both) → (m ≡ 0 → ⊥) → a ≡ says m 0 first second → Records text first s second z a s z
+  -- both states are as they were, with totals of 64 bits
+  abbrev Whole : Both → Type 0
+  Whole a = first .total .sum < 2 ^ 64 → second .total .sum < 2 ^ 64 → Records text first s second z a s z
+
+  pub early-refused : (a : Both) → (m ≡ 0 → ⊥) → a ≡ says m 0 first second → Whole a
   unfolding records early
-  early-refused a no-zero e = record { row = ap (λ (a : Both). seen2 a s z) e ∙ sym (stopped Refuses (earlyTests (length s) (first .len) (length z) (second .len) (length text)) (lateTests text (length s) (length z)) Done m is no-zero); slot = ap (λ (a : Both). a .slot) e }
+  early-refused a no-zero e =
+      kept-whole text first second s z a m e
+      (stopped Refuses (earlyTests (length s) (first .len) (length z) (second .len) (length text)) (lateTests text (length s) (length z)) Done m is no-zero)
 
   module _ (zero : m ≡ 0) where
     above : Above (earlyTests (length s) (first .len) (length z) (second .len) (length text))
@@ -143,6 +151,13 @@ module _ (text : List ℕ) (first second : Vector) (s z : List ℕ) (m : ℕ) (i
 
     pub short : length text ≤ longest
     short = ltb-false longest (length text) (none .1 .1 .1 .1 .0)
+
+    -- a valid vector has few slots
+    pub few-slots : length s ≤ most
+    few-slots = vector-facts (length s) (first .len) (none .0) .small
+
+    pub few-slots-too : length z ≤ most
+    few-slots-too = vector-facts (length z) (second .len) (none .1 .0) .small
 
     past : (d : Outcome2) → firstOf Refuses (earlyTests (length s) (first .len) (length z) (second .len) (length text) ++ lateTests text (length s) (length z)) d
         ≡ firstOf Refuses (lateTests text (length s) (length z)) d
@@ -166,50 +181,47 @@ module _ (text : List ℕ) (first second : Vector) (s z : List ℕ) (m : ℕ) (i
       pub reads-well : v .number ≡ 0 → numberOf (scanned text .ending) ≡ 0
       reads-well e = sym number-is ∙ e
 
-      pub late-refused : (a : Both) → (v .number ≡ 0 → ⊥) → a ≡ says (v .number) 0 first second → Records text first s second z a s z
+      pub late-refused : (a : Both) → (v .number ≡ 0 → ⊥) → a ≡ says (v .number) 0 first second → Whole a
       unfolding records
       late-refused a no-zero e =
           let holds : eqb (numberOf (scanned text .ending)) 0 ≡ false = ne-eqb _ 0 (λ zero′. no-zero (number-is ∙ zero′)) in
-          record { row = ap (λ (a : Both). seen2 a s z) e ∙ sym (past Done ∙ rw (holds, number-is) refl); slot = ap (λ (a : Both). a .slot) e }
+          kept-whole text first second s z a (v .number) e (past Done ∙ rw (holds, number-is) refl)
 
       module _ (read : v .number ≡ 0) where
         clear : eqb (numberOf (scanned text .ending)) 0 ≡ true
         clear = eq-eqb _ 0 (sym number-is ∙ read)
 
-        pub few-starts : (a : Both) → length s < v .count → a ≡ says 6 0 first second → Records text first s second z a s z
+        pub few-starts : (a : Both) → length s < v .count → a ≡ says 6 0 first second → Whole a
         unfolding records
         few-starts a short e =
             let holds : ltb (length s) (length (scanned text .fields)) ≡ true = lt-ltb (length s) (length (scanned text .fields)) (omega (arith, count-is)) in
-            record { row = ap (λ (a : Both). seen2 a s z) e ∙ sym (past Done ∙ rw (clear, holds) refl); slot = ap (λ (a : Both). a .slot) e }
+            kept-whole text first second s z a 6 e (past Done ∙ rw (clear, holds) refl)
 
         module _ (room : v .count ≤ length s) where
           enough : ltb (length s) (length (scanned text .fields)) ≡ false
           enough = le-ltb (length s) (length (scanned text .fields)) (omega (arith, count-is))
 
-          pub few-ends : (a : Both) → length z < v .count → a ≡ says 6 0 first second → Records text first s second z a s z
+          pub few-ends : (a : Both) → length z < v .count → a ≡ says 6 0 first second → Whole a
           unfolding records
           few-ends a short e =
               let holds : ltb (length z) (length (scanned text .fields)) ≡ true = lt-ltb (length z) (length (scanned text .fields)) (omega (arith, count-is)) in
-              record { row = ap (λ (a : Both). seen2 a s z) e ∙ sym (past Done ∙ rw (clear, enough, holds) refl); slot = ap (λ (a : Both). a .slot) e }
+              kept-whole text first second s z a 6 e (past Done ∙ rw (clear, enough, holds) refl)
 
           pub placed : (a : Both) (s′ z′ : List ℕ) → v .count ≤ length z → s′ ≡ sets s 0 (firsts (scanned text .fields))
-              → z′ ≡ sets z 0 (lasts (scanned text .fields)) → a ≡ says 0 (v .at) (state (v .count)) (state (v .count))
-              → Records text first s second z a s′ z′
+              → z′ ≡ sets z 0 (lasts (scanned text .fields)) → a ≡ reads-to first second s′ z′ (v .at) (v .count) → Records text first s second z a s′ z′
           unfolding records
           placed a s′ z′ room-too starts-are ends-are e =
               let enough-too : ltb (length z) (length (scanned text .fields)) ≡ false = le-ltb (length z) (length (scanned text .fields)) (omega (arith, count-is)) in
               let many = length-firsts (scanned text .fields) in
               let many-too = length-lasts (scanned text .fields) in
+              let none-held : first .len ≡ 0 = not-held (first .len) (none .1 .1 .0) in
+              let none-held-too : second .len ≡ 0 = not-held (second .len) (none .1 .1 .1 .0) in
               let laid-first : s′ ≡ relaid itself itself (first .len) (firsts (scanned text .fields)) s =
-              starts-are ∙ set-laid (firsts (scanned text .fields)) s (first .len) (not-held (first .len) (none .1 .1 .0)) (omega (arith, count-is)) in
+              starts-are ∙ set-laid (firsts (scanned text .fields)) s (first .len) none-held (omega (arith, count-is)) in
               let laid-second : z′ ≡ relaid itself itself (second .len) (lasts (scanned text .fields)) z =
-              ends-are ∙ set-laid (lasts (scanned text .fields)) z (second .len) (not-held (second .len) (none .1 .1 .1 .0)) (omega (arith, count-is)) in
+              ends-are ∙ set-laid (lasts (scanned text .fields)) z (second .len) none-held-too (omega (arith, count-is)) in
               let place-is : v .at ≡ placeOf (scanned text .ending) = ap (λ (v : Verdict). v .at) is-v in
-              let answer : a ≡ says 0 (placeOf (scanned text .ending)) (state (length (scanned text .fields))) (state (length (scanned text .fields))) =
-              e ∙ rw (place-is, count-is) refl in
-              record {
-                row =
-                    ap (λ (a : Both). seen2 a s′ z′) answer
-                    ∙ sym (past Done ∙ rw (clear, enough, enough-too, many, many-too, ← laid-first, ← laid-second) refl);
-                slot = ap (λ (a : Both). a .slot) e;
-              }
+              let answer : a ≡ reads-to first second s′ z′ (placeOf (scanned text .ending)) (length (scanned text .fields)) = e ∙ rw (place-is, count-is) refl in
+              grown text first second s z s′ z′ a (placeOf (scanned text .ending)) (length (scanned text .fields)) answer
+              (sym (past Done ∙ rw (clear, enough, enough-too, many, many-too, ← laid-first, ← laid-second) refl))
+              none-held none-held-too

@@ -1,6 +1,6 @@
 -- What truncate, resize, clear and extend_from_slice do where they are done, as the proof of each function finds it: o is what is seen, and each
 -- premise a fact that the code's steps tell.
-use mathlib.Core.Path.{_≡_, refl}
+use mathlib.Core.Path.{_≡_, refl, sym, ap₂, _∙_}
 use mathlib.Core.Bool.{false}
 use mathlib.Core.List.{List, _++_, append-nil}
 use Prim.Native.Nat.{ℕ, _+_, _-_, _≤_, _<_}
@@ -20,7 +20,7 @@ use Rattle.table.specs.Tray.{Tray, cap, list, invalid}
 use Rattle.table.specs.Calls.{truncate, resize, clear, extend}
 use Rattle.table.specs.Does.{Outcome, gives, headAfter, does}
 use Rattle.table.proofs.Laws.Valid.{fit}
-use Rattle.table.proofs.Laws.Done.{Homed, no-head, head-stays, done-plainly, many, still, as-it-was}
+use Rattle.table.proofs.Laws.Done.{Homed, home-of-none, no-head, head-stays, done-plainly, many, still, as-it-was}
 
 module _ (k : Kind) (t : Tray) (o : Outcome) (ok : invalid k t ≡ false) where
   keeps : (i : ℕ) → moved (place k (cap t) (t .head)) (place k (cap t) (t .head)) (kept i) (t .len) ≡ 0
@@ -109,8 +109,10 @@ module _ (k : Kind) (t : Tray) (o : Outcome) (ok : invalid k t ≡ false) where
         relaid-clear _ _ _ _ (t .len) (t .slots) u (fit k t ok .placed) (placing k (cap t) 0 (omega arith)) m,
       )
 
-  pub clear-none-done : t .len ≡ 0 → o ≡ gives 0 0 0 0 (t .slots) → o ≡ does k clear t
-  clear-none-done none eo = clear-done (t .slots) (rw none (fill-none _ _ _ _)) eo
+  -- nothing to clear: the head is 0 already
+  pub clear-none-done : Homed k t → t .len ≡ 0 → o ≡ gives 0 0 (t .head) (t .len) (t .slots) → o ≡ does k clear t
+  clear-none-done home none eo =
+      clear-done (t .slots) (rw none (fill-none _ _ _ _)) (eo ∙ ap₂ (λ h n. gives 0 0 h n (t .slots)) (sym home ∙ home-of-none k (t .len) (t .head) none) none)
 
   pub extend-done : (s u : List ℕ) → length s ≤ cap t - t .len → Laid (place k (cap t) (t .head)) (t .len) (length s) s (t .slots) u
       → o ≡ gives 0 0 (headAfter k (t .len + length s) (t .head)) (t .len + length s) u → o ≡ does k (extend s) t

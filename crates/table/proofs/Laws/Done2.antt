@@ -1,5 +1,5 @@
 -- What each call on two containers does where it is done, as `Done` has it for one: o is what is seen, and each premise a fact that the code's steps tell.
-use mathlib.Core.Path.{_≡_, _∙_}
+use mathlib.Core.Path.{_≡_, sym, ap₂, _∙_}
 use mathlib.Core.Bool.{false}
 use mathlib.Core.List.{List, _++_}
 use Prim.Native.Nat.{ℕ, _+_, _-_, _≤_}
@@ -13,7 +13,7 @@ use Rattle.slots.specs.Copy.{Laid}
 use Rattle.slots.proofs.Placing.{Placing, placing}
 use Rattle.slots.proofs.Moves.{moved-kept}
 use Rattle.slots.proofs.Fills.{fill-none, relaid-take}
-use Rattle.slots.proofs.Lays.{from-on, lay-entries, lay-part, lay-rest, entries-part, entries-rest, lay-plain, lay-none, relaid-append, relaid-fresh, relaid-clear}
+use Rattle.slots.proofs.Lays.{from-on, lay-entries, lay-part, entries-part, lay-plain, lay-none, relaid-append, relaid-fresh, relaid-clear}
 use Rattle.table.specs.Tray.{Tray, cap, list, invalid, Cursor, nowhere}
 use Rattle.table.specs.Calls.{Call2, append, splitOff, clone, fromIter}
 use Rattle.table.specs.Table.{Row2, after2, remaining, holding}
@@ -21,7 +21,7 @@ use Rattle.table.specs.Does.{Outcome2, refused2, headAfter, done2, rowOf
 use Rattle.table.proofs.Theorems.Carrying.{Carries}
 use Rattle.table.proofs.Laws.Valid.{fit}
 use Rattle.table.proofs.Laws.Refusals.{Clear, clear-of, inside}
-use Rattle.table.proofs.Laws.Done.{Homed, no-head, head-stays, rested-slots, shifted-plainly, row-carries2, many, still, as-it-was}
+use Rattle.table.proofs.Laws.Done.{Homed, home-of-none, no-head, head-stays, rested-slots, shifted-plainly, row-carries2, many, still, as-it-was}
 
 -- a call that is done, moves nothing and has no cursor
 abbrev pub gives2 : (value h n : ℕ) → List ℕ → (h2 n2 : ℕ) → List ℕ → Outcome2
@@ -109,11 +109,14 @@ module _ (k k2 : Kind) (t t2 : Tray) (o : Outcome2) (ok : invalid k t ≡ false)
         relaid-clear _ _ _ _ (t2 .len) (t2 .slots) u2 (fit k2 t2 ok2 .placed) anew m2,
       )
 
-  -- of a T that is empty already
-  pub append-none-done : Homed k t → t2 .len ≡ 0 → o ≡ gives2 0 (t .head) (t .len) (t .slots) 0 0 (t2 .slots) → o ≡ does2 k k2 append t t2
-  append-none-done home none eo =
+  -- NOTHING GOES OVER, and T is empty already: its head is 0.
+  at-home : (h n : ℕ) (u : List ℕ) → Homed k2 t2 → t2 .len ≡ 0 → gives2 0 h n u (t2 .head) (t2 .len) (t2 .slots) ≡ gives2 0 h n u 0 0 (t2 .slots)
+  at-home h n u home2 none = ap₂ (λ h2 n2. gives2 0 h n u h2 n2 (t2 .slots)) (sym home2 ∙ home-of-none k2 (t2 .len) (t2 .head) none) none
+
+  pub append-none-done : Homed k t → Homed k2 t2 → t2 .len ≡ 0 → o ≡ gives2 0 (t .head) (t .len) (t .slots) (t2 .head) (t2 .len) (t2 .slots) → o ≡ does2 k k2 append t t2
+  append-none-done home home2 none eo =
       let sum : t .len + t2 .len ≡ t .len = omega arith in
-      appends (t .slots) (t2 .slots) (omega arith) (rw none (lay-none _ _ _ _)) (rw none (fill-none _ _ _ _)) (rw (sum, home) eo)
+      appends (t .slots) (t2 .slots) (omega arith) (rw none (lay-none _ _ _ _)) (rw none (fill-none _ _ _ _)) (rw (sum, home) (eo ∙ at-home _ _ _ home2 none))
 
   -- T, which is empty, gets a part of the list
   pub clone-done : Homed k t → (u2 : List ℕ) → t2 .len ≡ 0 → t .len ≤ cap t2 → Laid (place k2 (cap t2) 0) 0 (t .len) (list k t) (t2 .slots) u2
@@ -131,8 +134,8 @@ module _ (k k2 : Kind) (t t2 : Tray) (o : Outcome2) (ok : invalid k t ≡ false)
         relaid-fresh (pos k2 (cap t2) (t2 .head)) _ _ (t .len) (list k t) (t2 .slots) u2 anew (many k t) m,
       )
 
-  pub clone-none-done : Homed k t → t2 .len ≡ 0 → t .len ≡ 0 → o ≡ gives2 0 (t .head) (t .len) (t .slots) 0 0 (t2 .slots) → o ≡ does2 k k2 clone t t2
-  clone-none-done home none none1 eo = clone-done home (t2 .slots) none (omega arith) (rw none1 (lay-none _ _ _ _)) (cc (eo, none1))
+  pub clone-none-done : Homed k t → Homed k2 t2 → t2 .len ≡ 0 → t .len ≡ 0 → o ≡ gives2 0 (t .head) (t .len) (t .slots) (t2 .head) (t2 .len) (t2 .slots) → o ≡ does2 k k2 clone t t2
+  clone-none-done home home2 none none1 eo = clone-done home (t2 .slots) none (omega arith) (rw none1 (lay-none _ _ _ _)) (cc (eo, at-home (t .head) (t .len) (t .slots) home2 none, none1))
 
   split : (i : ℕ) (u u2 : List ℕ) → i ≤ t .len → t2 .len ≡ 0 → t .len - i ≤ cap t2 → Filled (place k (cap t) (t .head)) i (t .len) 0 (t .slots) u
       → Laid (place k2 (cap t2) 0) 0 (t .len - i) (drop i (list k t)) (t2 .slots) u2
@@ -154,11 +157,12 @@ module _ (k k2 : Kind) (t t2 : Tray) (o : Outcome2) (ok : invalid k t ≡ false)
       )
 
   -- of nothing
-  pub split-none-done : Homed k t → (i : ℕ) → i ≤ t .len → t2 .len ≡ 0 → t .len ≤ i → o ≡ gives2 0 (t .head) (t .len) (t .slots) 0 0 (t2 .slots) → o ≡ does2 k k2 (splitOff i) t t2
-  split-none-done home i le none ge eo =
+  pub split-none-done : Homed k t → Homed k2 t2 → (i : ℕ) → i ≤ t .len → t2 .len ≡ 0 → t .len ≤ i → o ≡ gives2 0 (t .head) (t .len) (t .slots) (t2 .head) (t2 .len) (t2 .slots)
+      → o ≡ does2 k k2 (splitOff i) t t2
+  split-none-done home home2 i le none ge eo =
       let e : i ≡ t .len = omega arith in
       let z : t .len - i ≡ 0 = omega arith in
-      split i (t .slots) (t2 .slots) le none (omega arith) (rw e (fill-none _ _ _ _)) (rw z (lay-none _ _ _ _)) (cc (eo, e, z, home))
+      split i (t .slots) (t2 .slots) le none (omega arith) (rw e (fill-none _ _ _ _)) (rw z (lay-none _ _ _ _)) (cc (eo, at-home (t .head) (t .len) (t .slots) home2 none, e, z, home))
 
 -- T, a vector that is empty, gets what remains of a cursor, and the cursor ends
 module _ (k : Kind) (t t2 : Tray) (o : Outcome2) (ok : invalid k t ≡ false) (ok2 : invalid vector t2 ≡ false) (c : Cursor) (ordered : c .front ≤ c .back)
@@ -195,34 +199,32 @@ from-iter-done t t2 o ok ok2 c s u2 le fits none home room es m eo =
     rw es (entries-part (cap t) (t .head) (t .len) (c .front) (c .back - c .front) (t .slots) (omega arith)) in
     from-iter ring t t2 o ok ok2 c le fits none home u2 room (lay-plain 0 _ _ (t2 .slots) u2 (omega arith) (rw is m)) eo
 
--- Of a ring. It keeps its head while entries come; where they go, the part is the list of a ring whose head is the part's first slot.
+-- Of a ring, which keeps its head while entries come.
 pub append-done : (k2 : Kind) (t t2 : Tray) (o : Outcome2) → invalid ring t ≡ false → invalid k2 t2 ≡ false → (u u2 : List ℕ) → t2 .len ≤ cap t - t .len
     → Laid (slotOf (cap t) (t .head)) (t .len) (t2 .len) (list k2 t2) (t .slots) u → Filled (place k2 (cap t2) (t2 .head)) 0 (t2 .len) 0 (t2 .slots) u2
     → o ≡ gives2 0 (t .head) (t .len + t2 .len) u 0 0 u2 → o ≡ does2 ring k2 append t t2
 append-done k2 t t2 o ok ok2 u u2 room m m2 eo = appends ring k2 t t2 o ok ok2 u u2 room m m2 (rw (head-stays t ok (t .len + t2 .len) (omega arith)) eo)
 
-pub split-done : (k2 : Kind) (t t2 : Tray) (o : Outcome2) → invalid ring t ≡ false → invalid k2 t2 ≡ false → (i s : ℕ) (u u2 : List ℕ) → i ≤ t .len
-    → t2 .len ≡ 0 → t .len - i ≤ cap t2 → s ≡ slotOf (cap t) (t .head) i → Filled (slotOf (cap t) (t .head)) i (t .len) 0 (t .slots) u
-    → Laid (place k2 (cap t2) 0) 0 (t .len - i) (entries (slotOf (cap t) s) (t .len - i) (t .slots)) (t2 .slots) u2
+pub split-done : (k2 : Kind) (t t2 : Tray) (o : Outcome2) → invalid ring t ≡ false → invalid k2 t2 ≡ false → (i : ℕ) (u u2 : List ℕ) → i ≤ t .len
+    → t2 .len ≡ 0 → t .len - i ≤ cap t2 → Filled (slotOf (cap t) (t .head)) i (t .len) 0 (t .slots) u
+    → Laid (place k2 (cap t2) 0) 0 (t .len - i) (drop i (list ring t)) (t2 .slots) u2
     → o ≡ gives2 0 (headAfter ring i (t .head)) i u 0 (t .len - i) u2 → o ≡ does2 ring k2 (splitOff i) t t2
-split-done k2 t t2 o ok ok2 i s u u2 le none room es m m2 eo =
-    split ring k2 t t2 o ok ok2 i u u2 le none room m (rw (entries-rest (cap t) (t .head) (t .len) i (t .slots) le, ← es) m2) eo
+split-done k2 t t2 o ok ok2 i u u2 le none room m m2 eo = split ring k2 t t2 o ok ok2 i u u2 le none room m m2 eo
 
 -- Vectors, whose entries are their first slots.
 module _ (t t2 : Tray) (o : Outcome2) (ok : invalid vector t ≡ false) (ok2 : invalid vector t2 ≡ false) where
-  pub vector-append-done : (u u2 : List ℕ) → t2 .len ≤ cap t - t .len → Laid itself (t .len) (t2 .len) (t2 .slots) (t .slots) u
+  pub vector-append-done : (u u2 : List ℕ) → t2 .len ≤ cap t - t .len → Laid itself (t .len) (t2 .len) (list vector t2) (t .slots) u
       → Filled itself 0 (t2 .len) 0 (t2 .slots) u2 → o ≡ gives2 0 0 (t .len + t2 .len) u 0 0 u2 → o ≡ does2 vector vector append t t2
-  vector-append-done u u2 room m m2 eo = appends vector vector t t2 o ok ok2 u u2 room (lay-entries _ _ _ _ _ _ m) m2 eo
+  vector-append-done u u2 room m m2 eo = appends vector vector t t2 o ok ok2 u u2 room m m2 eo
 
   pub vector-clone-done : Homed vector t → (u2 : List ℕ) → t2 .len ≡ 0 → t .len ≤ cap t2 → Laid itself 0 (t .len) (t .slots) (t2 .slots) u2
       → o ≡ gives2 0 (t .head) (t .len) (t .slots) 0 (t .len) u2 → o ≡ does2 vector vector clone t t2
   vector-clone-done home u2 none room m eo = clone-done vector vector t t2 o ok ok2 home u2 none room (lay-entries _ _ _ _ _ _ m) eo
 
   pub vector-split-done : (i : ℕ) (u u2 : List ℕ) → i ≤ t .len → t2 .len ≡ 0 → t .len - i ≤ cap t2
-      → Laid itself 0 (t .len - i) (from-on i (t .slots)) (t2 .slots) u2 → Filled itself i (t .len) 0 (t .slots) u
+      → Laid itself 0 (t .len - i) (drop i (list vector t)) (t2 .slots) u2 → Filled itself i (t .len) 0 (t .slots) u
       → o ≡ gives2 0 0 i u 0 (t .len - i) u2 → o ≡ does2 vector vector (splitOff i) t t2
-  vector-split-done i u u2 le none room m2 m eo =
-      split vector vector t t2 o ok ok2 i u u2 le none room m (lay-rest _ _ _ _ _ _ _ (fit vector t ok .fits) le m2) eo
+  vector-split-done i u u2 le none room m2 m eo = split vector vector t t2 o ok ok2 i u u2 le none room m m2 eo
 
   pub vector-from-iter-done : Homed vector t → (c : Cursor) (u2 : List ℕ) → c .front ≤ c .back → c .back ≤ t .len → t2 .len ≡ 0 → c .back - c .front ≤ cap t2
       → Laid itself 0 (c .back - c .front) (from-on (c .front) (t .slots)) (t2 .slots) u2

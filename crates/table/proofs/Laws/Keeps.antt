@@ -6,8 +6,9 @@ use mathlib.Core.Bool.{Bool, true, false, cond}
 use mathlib.Core.List.{List, []}
 use native.Mathlib.Omega.{arith}
 use lib.ListN.{length}
-use Rattle.slots.specs.Layout.{Kind, place}
-use Rattle.slots.proofs.Counts.{count-append}
+use Rattle.slots.specs.Count.{marks}
+use Rattle.slots.specs.Layout.{Kind, place, itself}
+use Rattle.slots.proofs.Counts.{weigh-append}
 use Rattle.slots.proofs.Placing.{placing, length-entries, no-entries}
 use Rattle.slots.proofs.Relaid.{length-relaid, entries-relaid}
 use Rattle.table.specs.Tray.{Tray, cap, list, Cursor, nowhere}
@@ -82,8 +83,8 @@ call-keeps call k t good =
     let none : Clear (row (cap t) (t .head) (length (list k t)) (list k t) call .refusals) = rw n-is (clear .1) in
     let head-ok : rowOf k call t .head ≤ cap t - 1 = rw n-is at (headed call (cap t) (t .head) (list k t) (good .headed) within none) in
     record {
-      holds = relay-holds k t (after call (list k t)) _ (head-in k _ _ _ head-ok) (kept 0 (cap t) (t .head) call (list k t) within none .room);
-      balanced = λ x. rw n-is at (kept x (cap t) (t .head) call (list k t) within none .balance);
+      holds = relay-holds k t (after call (list k t)) _ (head-in k _ _ _ head-ok) (kept itself (cap t) (t .head) call (list k t) within none .room);
+      balanced = λ x. rw n-is at (kept (marks x) (cap t) (t .head) call (list k t) within none .balance);
     })
 
 pub call-kept : (call : Call) → Kept (promise call)
@@ -130,12 +131,12 @@ two-keep call k k2 t t2 good good2 =
     let none : Clear (row2 (cap t) (t .head) (length l) l (cap t2) (t2 .head) (length l2) l2 call .refusals) = rw (n-is, n2-is) (clear .1 .1) in
     let within : length l ≤ cap t = omega (arith, good .fits) in
     let within2 : length l2 ≤ cap t2 = omega (arith, good2 .fits) in
-    let rooms = kept2 0 (cap t) (t .head) (cap t2) (t2 .head) call l l2 within within2 none in
+    let rooms = kept2 itself (cap t) (t .head) (cap t2) (t2 .head) call l l2 within within2 none in
     let head2 = headed2 call (cap t) (t .head) (t .len) l (cap t2) (t2 .head) (t2 .len) l2 (good2 .headed) in
     record {
       first = relay-holds k t (after2 call l l2 .0) (t .head) (head-in k _ _ _ (good .headed)) (rooms .room);
       second = relay-holds k2 t2 (after2 call l l2 .1) _ (head-in k2 _ _ _ head2) (rooms .room2);
-      balanced = λ x. rw (count-append x l l2, count-append) (kept2 x (cap t) (t .head) (cap t2) (t2 .head) call l l2 within within2 none .balance);
+      balanced = λ x. rw (weigh-append (marks x) l l2, weigh-append) (kept2 (marks x) (cap t) (t .head) (cap t2) (t2 .head) call l l2 within within2 none .balance);
     })
 
 pub two-kept : (call : Call2) → Kept2 (promise2 call)

@@ -1,4 +1,4 @@
--- Each row of the table keeps the count, the room and the head. A call more is a case more here.
+-- Each row of the table keeps the weight, the room and the head. A call more is a case more here.
 use Prim.Native.Nat.{ℕ, zero, suc, _+_, _-_, _≤_, _<_}
 use mathlib.Core.Path.{_≡_, refl}
 use mathlib.Core.Bool.{Bool, true, false, not, cond}
@@ -7,9 +7,9 @@ use native.Mathlib.Omega.{arith}
 use lib.Dec.{ltb, eqb}
 use lib.ListN.{length, length-append, length-take, length-drop, length-set, length-replicate}
 use borrow.Author.Tests.{ltb-false, leb-false, eqb-true, not-false}
-use Rattle.slots.specs.Count.{count}
+use Rattle.slots.specs.Count.{weigh}
 use Rattle.slots.specs.Layout.{slotOf}
-use Rattle.slots.proofs.Counts.{count-append, count-split, count-at, count-set, count-last, count-swap}
+use Rattle.slots.proofs.Counts.{weigh-none, weigh-append, weigh-split, weigh-at, weigh-set, weigh-last, weigh-swap}
 use Rattle.slots.proofs.Placing.{slot-inside}
 use Rattle.table.specs.Calls.{Call, push, pushFront, pop, popFront, insert, remove, swapRemove, write, truncate, resize, clear, extend, look}
 use Rattle.table.specs.Calls.{Call2, append, splitOff, clone, fromIter, same, Making, new, withCapacity, fromElem}
@@ -27,72 +27,67 @@ nothing n e = eqb-true n 0 (not-false (eqb n 0) e)
 
 ruleset readings = (leb-false, ltb-false, filled, nothing)
 
--- A call that is done leaves no more entries than there are slots, and keeps the count of every number:
+-- A call that is done leaves no more entries than there are slots, and keeps the weight, whatever each number weighs (so the count of every number, and the total):
 -- what entered and was there is what was handed out, dropped, and is there.
-pub record Kept (x c : ℕ) (f : Flow) (before after : List ℕ) : Type 0 where
+pub record Kept (w : ℕ → ℕ) (c : ℕ) (f : Flow) (before after : List ℕ) : Type 0 where
   pub room : length after ≤ c
-  pub balance : count x (f .entered) + count x before ≡ count x (f .handed) + count x (f .dropped) + count x after
+  pub balance : weigh w (f .entered) + weigh w before ≡ weigh w (f .handed) + weigh w (f .dropped) + weigh w after
 
-pub kept : (x c h : ℕ) (call : Call) (l : List ℕ) → length l ≤ c → Clear (row c h (length l) l call .refusals)
-    → Kept x c (flow call (row c h (length l) l call .value) l) l (after call l)
-kept x c h (push y) l fits e = record { room = simp length-append (omega (arith, readings)); balance = simp count-append (omega arith) }
-kept x c h (pushFront y) l fits e = record { room = omega (arith, readings); balance = omega arith }
-kept x c h pop l fits e = record { room = simp length-take (omega arith); balance = omega (arith, count-last x l (omega (arith, readings))) }
-kept x c h popFront l fits e = record { room = simp length-drop (omega arith); balance = omega (arith, count-at x 0 l (omega (arith, readings))) }
-kept x c h (insert i y) l fits e = record {
+pub kept : (w : ℕ → ℕ) (c h : ℕ) (call : Call) (l : List ℕ) → length l ≤ c → Clear (row c h (length l) l call .refusals)
+    → Kept w c (flow call (row c h (length l) l call .value) l) l (after call l)
+kept w c h (push y) l fits e = record { room = simp length-append (omega (arith, readings)); balance = simp weigh-append (omega arith) }
+kept w c h (pushFront y) l fits e = record { room = omega (arith, readings); balance = omega arith }
+kept w c h pop l fits e = record { room = simp length-take (omega arith); balance = omega (arith, weigh-last w l (omega (arith, readings))) }
+kept w c h popFront l fits e = record { room = simp length-drop (omega arith); balance = omega (arith, weigh-at w 0 l (omega (arith, readings))) }
+kept w c h (insert i y) l fits e = record {
   room = simp (length-append, length-take, length-drop) (omega (arith, readings));
-  balance = simp count-append (omega (arith, count-split x i l));
+  balance = simp weigh-append (omega (arith, weigh-split w i l));
 }
-kept x c h (remove i) l fits e = record {
+kept w c h (remove i) l fits e = record {
   room = simp (length-append, length-take, length-drop) (omega arith);
-  balance = simp count-append (omega (arith, count-at x i l (omega (arith, readings))));
+  balance = simp weigh-append (omega (arith, weigh-at w i l (omega (arith, readings))));
 }
-kept x c h (swapRemove i) l fits e =
-    record { room = simp (length-take, length-set) (omega arith); balance = omega (arith, count-swap x i l (omega (arith, readings))) }
-kept x c h (write i y) l fits e = record { room = simp length-set fits; balance = omega (arith, count-set x i y l (omega (arith, readings))) }
-kept x c h (truncate k) l fits e = record { room = simp length-take (omega arith); balance = omega (arith, count-split x k l) }
-kept x c h (resize k y) l fits e = record {
+kept w c h (swapRemove i) l fits e =
+    record { room = simp (length-take, length-set) (omega arith); balance = omega (arith, weigh-swap w i l (omega (arith, readings))) }
+kept w c h (write i y) l fits e = record { room = simp length-set fits; balance = omega (arith, weigh-set w i y l (omega (arith, readings))) }
+kept w c h (truncate k) l fits e = record { room = simp length-take (omega arith); balance = omega (arith, weigh-split w k l) }
+kept w c h (resize k y) l fits e = record {
   room = simp (length-append, length-take, length-replicate) (omega (arith, readings));
-  balance = simp count-append (omega (arith, count-split x k l));
+  balance = simp weigh-append (omega (arith, weigh-split w k l));
 }
-kept x c h clear l fits e = record { room = omega arith; balance = omega arith }
-kept x c h (extend s) l fits e = record { room = simp length-append (omega (arith, readings)); balance = simp count-append (omega arith) }
-kept x c h (look k) l fits e = record { room = fits; balance = refl }
+kept w c h clear l fits e = record { room = omega arith; balance = omega arith }
+kept w c h (extend s) l fits e = record { room = simp length-append (omega (arith, readings)); balance = simp weigh-append (omega arith) }
+kept w c h (look k) l fits e = record { room = fits; balance = refl }
 
 pub made-room : (c : ℕ) (m : Making) → Clear (makes c m .refusals) → length (begins m) ≤ c
 made-room c new e = omega arith
 made-room c (withCapacity k) e = omega arith
 made-room c (fromElem k y) e = simp length-replicate (omega (arith, readings))
 
--- the same of a call on two, their counts added
-pub record Kept2 (x c c2 : ℕ) (f : Flow) (before before2 after after2 : List ℕ) : Type 0 where
+-- the same of a call on two, their weights added
+pub record Kept2 (w : ℕ → ℕ) (c c2 : ℕ) (f : Flow) (before before2 after after2 : List ℕ) : Type 0 where
   pub room : length after ≤ c
   pub room2 : length after2 ≤ c2
-  pub balance : count x (f .entered) + (count x before + count x before2) ≡ count x (f .handed) + count x (f .dropped) + (count x after + count x after2)
+  pub balance : weigh w (f .entered) + (weigh w before + weigh w before2) ≡ weigh w (f .handed) + weigh w (f .dropped) + (weigh w after + weigh w after2)
 
--- an empty list holds nothing
-pub count-none : (x : ℕ) (l : List ℕ) → length l ≡ 0 → count x l ≡ 0
-count-none x [] e = refl
-count-none x (y ∷ l) e = absurd (omega arith)
-
-pub kept2 : (x c h c2 h2 : ℕ) (call : Call2) (l l2 : List ℕ) → length l ≤ c → length l2 ≤ c2
+pub kept2 : (w : ℕ → ℕ) (c h c2 h2 : ℕ) (call : Call2) (l l2 : List ℕ) → length l ≤ c → length l2 ≤ c2
     → Clear (row2 c h (length l) l c2 h2 (length l2) l2 call .refusals)
-    → Kept2 x c c2 (flow2 call l) l l2 (after2 call l l2 .0) (after2 call l l2 .1)
-kept2 x c h c2 h2 append l l2 fits fits2 e =
-    record { room = simp length-append (omega (arith, readings)); room2 = omega arith; balance = simp count-append (omega arith) }
-kept2 x c h c2 h2 (splitOff at) l l2 fits fits2 e = record {
+    → Kept2 w c c2 (flow2 call l) l l2 (after2 call l l2 .0) (after2 call l l2 .1)
+kept2 w c h c2 h2 append l l2 fits fits2 e =
+    record { room = simp length-append (omega (arith, readings)); room2 = omega arith; balance = simp weigh-append (omega arith) }
+kept2 w c h c2 h2 (splitOff at) l l2 fits fits2 e = record {
   room = simp length-take (omega arith);
   room2 = simp length-drop (omega (arith, readings));
-  balance = omega (arith, count-split x at l, count-none x l2 (omega (arith, readings)));
+  balance = omega (arith, weigh-split w at l, weigh-none w l2 (omega (arith, readings)));
 }
-kept2 x c h c2 h2 clone l l2 fits fits2 e =
-    record { room = fits; room2 = omega (arith, readings); balance = omega (arith, count-none x l2 (omega (arith, readings))) }
-kept2 x c h c2 h2 (fromIter u) l l2 fits fits2 e = record {
+kept2 w c h c2 h2 clone l l2 fits fits2 e =
+    record { room = fits; room2 = omega (arith, readings); balance = omega (arith, weigh-none w l2 (omega (arith, readings))) }
+kept2 w c h c2 h2 (fromIter u) l l2 fits fits2 e = record {
   room = fits;
   room2 = simp (length-take, length-drop) (omega (arith, readings));
-  balance = omega (arith, count-none x l2 (omega (arith, readings)));
+  balance = omega (arith, weigh-none w l2 (omega (arith, readings)));
 }
-kept2 x c h c2 h2 same l l2 fits fits2 e = record { room = fits; room2 = fits2; balance = refl }
+kept2 w c h c2 h2 same l l2 fits fits2 e = record { room = fits; room2 = fits2; balance = refl }
 
 -- The head afterwards is a slot, or 0 where there is none.
 turned : (c h j : ℕ) → h < c → slotOf c h j ≤ c - 1

@@ -132,7 +132,7 @@ module _ (t : Tray) (o : Outcome) (ok : invalid ring t ≡ false) where
 
   pub remove-front-done : (i s h : ℕ) (u : List ℕ) → i < t .len → i < t .len - 1 - i → s ≡ slotOf (cap t) (t .head) i
       → MovedUp (slotOf (cap t) (t .head)) 0 i (t .slots) u → h ≡ slotOf (cap t) (t .head) 1
-      → o ≡ gives (getD (t .slots) s 0) i h (t .len - 1) (set u (t .head) 0) → o ≡ does ring (remove i) t
+      → o ≡ gives (getD (t .slots) s 0) i (headAfter ring (t .len - 1) h) (t .len - 1) (set u (t .head) 0) → o ≡ does ring (remove i) t
   remove-front-done i s h u fits near es m eh eo =
       let f = fit ring t ok in
       let lt = ring-inside t ok (omega arith) in

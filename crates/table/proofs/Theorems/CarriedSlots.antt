@@ -5,7 +5,7 @@ use mathlib.Core.Bool.{false}
 use mathlib.Core.List.{List}
 use native.Mathlib.Omega.{arith}
 use lib.ListN.{length, getD}
-use Rattle.slots.specs.Layout.{Kind, place, pos}
+use Rattle.slots.specs.Layout.{Kind, place, pos, itself}
 use Rattle.slots.specs.Moves.{to}
 use Rattle.slots.proofs.Placing.{Placing, placing, entry}
 use Rattle.slots.proofs.Relaid.{entries-relaid}
@@ -32,7 +32,7 @@ carried-slots k t call ok none j p h e =
     let fits : length l ≤ cap t = omega (arith, many k t, fit k t ok) in
     let clear-on : Clear (on (cap t) (t .head) l call .refusals) = rw (many k t) none in
     let c = row-carries k t call none in
-    let room = rows.kept 0 (cap t) (t .head) call l fits clear-on .room in
+    let room = rows.kept itself (cap t) (t .head) call l fits clear-on .room in
     let head : t .head ≤ cap t - 1 → rowOf k call t .head ≤ cap t - 1 = λ i. rw (many k t) at (rows.headed call (cap t) (t .head) l i fits clear-on) in
     let lt : j < length l = omega (arith, many k t) in
     rw (done-is k t call ok none)
@@ -50,7 +50,7 @@ carried-slots2 k k2 t t2 call ok ok2 none j p h e =
     let c = row-carries2 k k2 t t2 call in
     let fits : length l ≤ cap t = omega (arith, many k t, fit k t ok) in
     let fits2 : length l2 ≤ cap t2 = omega (arith, many k2 t2, fit k2 t2 ok2) in
-    let room = rows.kept2 0 (cap t) (t .head) (cap t2) (t2 .head) call l l2 fits fits2 clear-on .room in
+    let room = rows.kept2 itself (cap t) (t .head) (cap t2) (t2 .head) call l l2 fits fits2 clear-on .room in
     let lt : j < length l = omega (arith, many k t) in
     let all : Clear (refusalsOf2 k k2 call t t2) = (ok, (ok2, none)) in
     rw (clear-of (refused2 t t2 (rowOf2 k k2 call t t2 .given)) (refusalsOf2 k k2 call t t2) (done2 k k2 t t2 (after2 call l l2) (rowOf2 k k2 call t t2)) all)

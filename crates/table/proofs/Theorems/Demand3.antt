@@ -9,7 +9,7 @@ use lib.ListN.{length, set, length-set}
 use lib.Seq.{getD-set-other}
 use Rattle.slots.specs.Count.{count}
 use Rattle.slots.specs.Layout.{Kind}
-use Rattle.slots.proofs.Counts.{count-append}
+use Rattle.slots.proofs.Counts.{weigh-append}
 use Rattle.slots.proofs.Placing.{placing, tally-entries}
 use Rattle.table.specs.Tray.{Tray, cap}
 use Rattle.table.specs.Does.{Outcome, Outcome2}
@@ -135,7 +135,7 @@ steps x w (calledTwo i j p o) g our =
           ∙ ap (set (set (held w) i _) j) is2;
       balanced = omega (
         arith,
-        simp count-append at (kept .balanced x),
+        simp weigh-append at (kept .balanced x),
         standing-set x w i b (our .0),
         standing-set x (set w i b) j b2 there,
         ap (standing x) apart,

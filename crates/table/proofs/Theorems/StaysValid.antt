@@ -9,7 +9,7 @@ use borrow.Author.Tests.{lt-ltb, le-ltb, le-leb, eq-eqb}
 use lib.Dec.{ltb, leb, eqb}
 use lib.ListN.{length}
 use mathlib.Core.Logic.{⊎-elim}
-use Rattle.slots.specs.Layout.{Kind, ring, vector}
+use Rattle.slots.specs.Layout.{Kind, ring, vector, itself}
 use Rattle.slots.proofs.Words.{below?}
 use Rattle.slots.proofs.Relaid.{length-relaid}
 use Rattle.table.specs.Tray.{Tray, cap, list, valid, invalid, nowhere}
@@ -57,7 +57,7 @@ call-leaves k call t clear =
     let fits : length (list k t) ≤ cap t = omega (arith, fit k t (clear .0) .fits) in
     let none : Clear (row (cap t) (t .head) (length (list k t)) (list k t) call .refusals) = rw n-is (clear .1) in
     record {
-      room = kept 0 (cap t) (t .head) call (list k t) fits none .room;
+      room = kept itself (cap t) (t .head) call (list k t) fits none .room;
       inside = head-left k t (clear .0) _ _ (λ ok. rw n-is at (headed call (cap t) (t .head) (list k t) ok fits none));
     }
 
@@ -76,7 +76,7 @@ two-leave k k2 call t t2 clear =
     let n-is : length l ≡ t .len = many k t in
     let n2-is : length l2 ≡ t2 .len = many k2 t2 in
     let none : Clear (row2 (cap t) (t .head) (length l) l (cap t2) (t2 .head) (length l2) l2 call .refusals) = rw (n-is, n2-is) (clear .1 .1) in
-    let rooms = kept2 0 (cap t) (t .head) (cap t2) (t2 .head) call l l2 (omega (arith, was .fits)) (omega (arith, was2 .fits)) none in
+    let rooms = kept2 itself (cap t) (t .head) (cap t2) (t2 .head) call l l2 (omega (arith, was .fits)) (omega (arith, was2 .fits)) none in
     record {
       first = record { room = rooms .room; inside = head-left k t (clear .0) _ _ (λ ok. ok) };
       second = record {

@@ -3,7 +3,7 @@ use borrow.Author.Needs.{needs}
 use Rattle.table.specs.Does.{does2}
 use Rattle.table.proofs.Laws.Valid.{state}
 use Rattle.table.proofs.Laws.Done2.{from-iter-none-done, from-iter-done}
-use Rattle.cursors.proofs.Told.{into-refusals, into-shown}
+use Rattle.cursors.proofs.Told.{into-refusals, into-none, into-shown}
 use Rattle.cursors.proofs.Cursor.ring_from_iter.Statement.{statement}
 use Rattle.cursors.proofs.Cursor.ring_from_iter.Tie as tie
 
@@ -27,10 +27,17 @@ ring-from-iter-spec =
     (λ c κs. search needs)
     (λ c. search into-refusals depth 9)
     (λ c κs. search needs)
-    (λ c. search (from-iter-none-done, into-shown) depth 9)
+    (λ c. search (from-iter-none-done, into-none) depth 9)
+    (λ c κs. omega state)
     (λ c. omega state)
     (λ c κs. omega state)
     (λ c κs. omega state)
     (λ c κs. search needs)
     (λ c. search needs)
-    (λ c. search (from-iter-done, into-shown) depth 9))
+    (λ c.
+    search (
+      from-iter-done,
+      into-shown,
+      c .before .before .before .before .before .before .before .before .before .before .before .before .before .before .before .invalid-ring .ensures,
+      c .before .before .before .before .before .before .before .before .before .before .before .before .before .invalid-vector .ensures,
+    ) depth 9))

@@ -26,6 +26,7 @@ vector-from-iter-spec =
     (λ c. omega state)
     (λ c κs. search needs)
     (λ c. search into-refusals depth 9)
+    (λ c κs. omega state)
     (λ c. omega state)
     (λ c. omega state)
     (λ c. omega state)

@@ -3,7 +3,7 @@ use borrow.Author.Needs.{needs}
 use Rattle.table.specs.Does.{does2}
 use Rattle.table.proofs.Laws.Valid.{state}
 use Rattle.table.proofs.Laws.Done2.{append-none-done, append-done}
-use Rattle.pairs.proofs.ToldRings.{refusals, shown}
+use Rattle.pairs.proofs.ToldRings.{refusals, stays, shown}
 use Rattle.pairs.proofs.rings.append.Statement.{statement}
 use Rattle.pairs.proofs.rings.append.Tie as tie
 
@@ -22,12 +22,8 @@ append-spec =
     (λ c κs. search needs)
     (λ c. search refusals depth 9)
     (λ c κs. search needs)
-    (λ c κs. search needs)
-    (λ c. search (append-none-done, shown) depth 9)
+    (λ c. search (append-none-done, stays) depth 9)
     (λ c κs. omega state)
-    (λ c κs. omega state)
-    (λ c. search needs)
-    (λ c κs. search needs)
     (λ c. search needs)
     (λ c. search needs)
     (λ c. search (append-done, shown) depth 9))

@@ -3,7 +3,7 @@ use borrow.Author.Needs.{needs}
 use Rattle.table.specs.Does.{does2}
 use Rattle.table.proofs.Laws.Valid.{state}
 use Rattle.table.proofs.Laws.Done2.{clone-none-done, clone-done}
-use Rattle.pairs.proofs.ToldRings.{refusals, shown}
+use Rattle.pairs.proofs.ToldRings.{refusals, stays, shown}
 use Rattle.pairs.proofs.rings.clone.Statement.{statement}
 use Rattle.pairs.proofs.rings.clone.Tie as tie
 
@@ -23,10 +23,9 @@ clone-spec =
     (λ c κs. search needs)
     (λ c. search refusals depth 9)
     (λ c κs. search needs)
-    (λ c κs. search needs)
-    (λ c. search (clone-none-done, shown) depth 9)
+    (λ c. search (clone-none-done, stays) depth 9)
     (λ c κs. omega state)
-    (λ c κs. search needs)
+    (λ c κs. omega state)
     (λ c κs. search needs)
     (λ c. search needs)
     (λ c. search (clone-done, shown) depth 9))

@@ -3,7 +3,7 @@ use borrow.Author.Needs.{needs}
 use Rattle.table.specs.Does.{does2}
 use Rattle.table.proofs.Laws.Valid.{state}
 use Rattle.table.proofs.Laws.Equal.{longer-done, same-done, differ-done}
-use Rattle.pairs.proofs.ToldRings.{refusals, shown}
+use Rattle.pairs.proofs.ToldRings.{refusals, stays}
 use Rattle.pairs.proofs.rings.same.Statement.{statement}
 use Rattle.pairs.proofs.rings.same.Tie as tie
 
@@ -19,9 +19,9 @@ same-spec =
     (λ c κs. search needs)
     (λ c. search refusals depth 9)
     (λ c κs. search needs)
-    (λ c. search (longer-done, shown) depth 9)
+    (λ c. search (longer-done, stays) depth 9)
     (λ c κs. omega state)
     (λ c κs. search needs)
-    (λ c. search (same-done, shown) depth 9)
+    (λ c. search (same-done, stays) depth 9)
     (λ c κs. search needs)
-    (λ c. search (differ-done, shown) depth 9))
+    (λ c. search (differ-done, stays) depth 9))

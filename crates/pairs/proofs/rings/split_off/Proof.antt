@@ -3,7 +3,7 @@ use borrow.Author.Needs.{needs}
 use Rattle.table.specs.Does.{does2}
 use Rattle.table.proofs.Laws.Valid.{state}
 use Rattle.table.proofs.Laws.Done2.{split-none-done, split-done}
-use Rattle.pairs.proofs.ToldRings.{refusals, shown}
+use Rattle.pairs.proofs.ToldRings.{refusals, stays, shown}
 use Rattle.pairs.proofs.rings.split_off.Statement.{statement}
 use Rattle.pairs.proofs.rings.split_off.Tie as tie
 
@@ -25,12 +25,8 @@ split-off-spec =
     (λ c κs. search needs)
     (λ c. search refusals depth 9)
     (λ c κs. search needs)
-    (λ c κs. search needs)
-    (λ c. search (split-none-done, shown) depth 9)
+    (λ c. search (split-none-done, stays) depth 9)
     (λ c κs. omega state)
-    (λ c κs. omega state)
-    (λ c κs. omega state)
-    (λ c κs. search needs)
     (λ c. search needs)
     (λ c. search needs)
     (λ c. search (split-done, shown) depth 9))

@@ -23,7 +23,7 @@ clone-spec =
     (λ c κs. search needs)
     (λ c. search refusals depth 9)
     (λ c κs. omega state)
-    (λ c κs. search needs)
+    (λ c κs. omega state)
     (λ c κs. search needs)
     (λ c. search needs)
     (λ c. search (vector-clone-done, shown) depth 9))

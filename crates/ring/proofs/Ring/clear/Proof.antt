@@ -3,7 +3,7 @@ use borrow.Author.Needs.{needs}
 use Rattle.table.specs.Does.{does}
 use Rattle.table.proofs.Laws.Valid.{state}
 use Rattle.table.proofs.Laws.Cut.{clear-none-done, clear-done}
-use Rattle.ring.proofs.Told.{refusals, shown}
+use Rattle.ring.proofs.Told.{refusals, stays, shown}
 use Rattle.ring.proofs.Ring.clear.Statement.{statement}
 use Rattle.ring.proofs.Ring.clear.Tie as tie
 
@@ -16,7 +16,9 @@ clear-spec =
     (λ c κs. search needs)
     (λ c. search refusals)
     (λ c κs. search needs)
-    (λ c. search (clear-none-done, shown))
+    (λ c. search (clear-none-done, stays))
+    (λ c κs. omega state)
+    (λ c κs. search needs)
     (λ c κs. omega state)
     (λ c κs. search needs)
     (λ c. search needs)

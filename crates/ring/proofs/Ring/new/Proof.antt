@@ -13,6 +13,8 @@ new-spec =
     (tie.spec
     (λ c κs. search needs)
     (λ c κs. search needs)
+    (λ c κs. search needs)
     (λ c. search refusals)
+    (λ c κs. search needs)
     (λ c κs. search needs)
     (λ c. search (new-done, shown)))

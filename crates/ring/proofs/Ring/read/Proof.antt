@@ -3,7 +3,7 @@ use borrow.Author.Needs.{needs}
 use Rattle.table.specs.Does.{does}
 use Rattle.table.proofs.Laws.Valid.{state}
 use Rattle.table.proofs.Laws.Looks.{read-done}
-use Rattle.ring.proofs.Told.{refusals, shown-lit}
+use Rattle.ring.proofs.Told.{refusals, stays-lit}
 use Rattle.ring.proofs.Ring.read.Statement.{statement}
 use Rattle.ring.proofs.Ring.read.Tie as tie
 
@@ -23,4 +23,4 @@ read-spec =
     (λ c. search needs)
     (λ c κs. search needs)
     (λ c κs. search needs)
-    (λ c. search (read-done, shown-lit)))
+    (λ c. search (read-done, stays-lit, c .before .before .before .before .before .before .before .good)))

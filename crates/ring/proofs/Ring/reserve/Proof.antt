@@ -3,7 +3,7 @@ use borrow.Author.Needs.{needs}
 use Rattle.table.specs.Does.{does}
 use Rattle.table.proofs.Laws.Valid.{state}
 use Rattle.table.proofs.Laws.Looks.{reserve-done}
-use Rattle.ring.proofs.Told.{refusals, shown}
+use Rattle.ring.proofs.Told.{refusals, stays}
 use Rattle.ring.proofs.Ring.reserve.Statement.{statement}
 use Rattle.ring.proofs.Ring.reserve.Tie as tie
 
@@ -19,4 +19,4 @@ reserve-spec =
     (λ c κs. search needs)
     (λ c. search refusals)
     (λ c κs. search needs)
-    (λ c. search (reserve-done, shown)))
+    (λ c. search (reserve-done, stays)))

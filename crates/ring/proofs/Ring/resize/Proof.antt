@@ -3,7 +3,7 @@ use borrow.Author.Needs.{needs}
 use Rattle.table.specs.Does.{does}
 use Rattle.table.proofs.Laws.Valid.{state}
 use Rattle.table.proofs.Laws.Cut.{resize-cut-done, resize-more-done, resize-same-done}
-use Rattle.ring.proofs.Told.{refusals, shown}
+use Rattle.ring.proofs.Told.{refusals, stays, shown}
 use Rattle.ring.proofs.Ring.resize.Statement.{statement}
 use Rattle.ring.proofs.Ring.resize.Tie as tie
 
@@ -19,11 +19,15 @@ resize-spec =
     (λ c. search refusals)
     (λ c κs. omega state)
     (λ c κs. search needs)
+    (λ c κs. omega state)
+    (λ c κs. search needs)
     (λ c. search needs)
     (λ c. search (resize-cut-done, shown))
+    (λ c κs. omega state)
+    (λ c κs. search needs)
     (λ c κs. omega state)
     (λ c κs. search needs)
     (λ c. search needs)
     (λ c. search (resize-more-done, shown))
     (λ c κs. search needs)
-    (λ c. search (resize-same-done, shown)))
+    (λ c. search (resize-same-done, stays)))

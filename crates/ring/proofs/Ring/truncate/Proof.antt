@@ -3,7 +3,7 @@ use borrow.Author.Needs.{needs}
 use Rattle.table.specs.Does.{does}
 use Rattle.table.proofs.Laws.Valid.{state}
 use Rattle.table.proofs.Laws.Cut.{truncate-same-done, truncate-done}
-use Rattle.ring.proofs.Told.{refusals, shown}
+use Rattle.ring.proofs.Told.{refusals, stays, shown}
 use Rattle.ring.proofs.Ring.truncate.Statement.{statement}
 use Rattle.ring.proofs.Ring.truncate.Tie as tie
 
@@ -16,7 +16,9 @@ truncate-spec =
     (λ c κs. search needs)
     (λ c. search refusals)
     (λ c κs. search needs)
-    (λ c. search (truncate-same-done, shown))
+    (λ c. search (truncate-same-done, stays))
+    (λ c κs. omega state)
+    (λ c κs. search needs)
     (λ c κs. omega state)
     (λ c κs. search needs)
     (λ c. search needs)

@@ -8,6 +8,8 @@ pub on-vector-spec : {M : Type 1} → statement M
 on-vector-spec =
     tie.close
     (tie.spec
+    (λ c κs. search needs)
+    (λ c κs. search needs)
     (λ c. search needs)
     (λ c. search needs)
     (λ c κs. search needs)

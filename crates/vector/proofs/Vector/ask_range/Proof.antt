@@ -2,7 +2,7 @@
 use borrow.Author.Needs.{needs}
 use Rattle.table.specs.Does.{does}
 use Rattle.table.proofs.Laws.Looks.{range-done}
-use Rattle.vector.proofs.Told.{refusals, shown}
+use Rattle.vector.proofs.Told.{refusals, stays}
 use Rattle.vector.proofs.Vector.ask_range.Statement.{statement}
 use Rattle.vector.proofs.Vector.ask_range.Tie as tie
 
@@ -18,4 +18,4 @@ ask-range-spec =
     (λ c κs. search needs)
     (λ c. search refusals)
     (λ c κs. search needs)
-    (λ c. search (range-done, shown)))
+    (λ c. search (range-done, stays)))

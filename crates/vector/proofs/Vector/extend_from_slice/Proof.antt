@@ -19,6 +19,8 @@ extend-from-slice-spec =
     (λ c κs. search needs)
     (λ c. search refusals)
     (λ c κs. omega state)
+    (λ c κs. search needs)
+    (λ c κs. omega state)
     (λ c. search needs)
     (λ c κs. search needs)
     (λ c. search needs)

@@ -2,7 +2,7 @@
 use borrow.Author.Needs.{needs}
 use Rattle.table.specs.Does.{made}
 use Rattle.table.proofs.Laws.Made.{from-elem-done}
-use Rattle.vector.proofs.Told.{refusals, shown}
+use Rattle.vector.proofs.Told.{refusals, makes-filled, shown}
 use Rattle.vector.proofs.Vector.from_elem.Statement.{statement}
 use Rattle.vector.proofs.Vector.from_elem.Tie as tie
 
@@ -13,11 +13,14 @@ from-elem-spec =
     (tie.spec
     (λ c κs. search needs)
     (λ c κs. search needs)
+    (λ c κs. search needs)
     (λ c. search refusals)
     (λ c κs. search needs)
     (λ c κs. search needs)
+    (λ c κs. search needs)
     (λ c. search refusals)
+    (λ c κs. search needs)
     (λ c κs. search needs)
     (λ c κs. search needs)
     (λ c. search needs)
-    (λ c. search (from-elem-done, shown)))
+    (λ c. search (from-elem-done, makes-filled, shown)))

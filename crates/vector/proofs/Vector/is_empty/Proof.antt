@@ -2,7 +2,7 @@
 use borrow.Author.Needs.{needs}
 use Rattle.table.specs.Does.{does}
 use Rattle.table.proofs.Laws.Looks.{empty-done, filled-done}
-use Rattle.vector.proofs.Told.{refusals, shown}
+use Rattle.vector.proofs.Told.{refusals, stays}
 use Rattle.vector.proofs.Vector.is_empty.Statement.{statement}
 use Rattle.vector.proofs.Vector.is_empty.Tie as tie
 
@@ -15,6 +15,6 @@ is-empty-spec =
     (λ c κs. search needs)
     (λ c. search refusals)
     (λ c κs. search needs)
-    (λ c. search (empty-done, shown))
+    (λ c. search (empty-done, stays))
     (λ c κs. search needs)
-    (λ c. search (filled-done, shown)))
+    (λ c. search (filled-done, stays)))

@@ -2,7 +2,7 @@
 use borrow.Author.Needs.{needs}
 use Rattle.table.specs.Does.{does}
 use Rattle.table.proofs.Laws.Looks.{len-done}
-use Rattle.vector.proofs.Told.{refusals, shown}
+use Rattle.vector.proofs.Told.{refusals, stays}
 use Rattle.vector.proofs.Vector.len.Statement.{statement}
 use Rattle.vector.proofs.Vector.len.Tie as tie
 
@@ -16,4 +16,4 @@ len-spec =
     (λ c. search refusals)
     (λ c κs. search needs)
     (λ c κs. search needs)
-    (λ c. search (len-done, shown)))
+    (λ c. search (len-done, stays)))

@@ -3,7 +3,7 @@ use borrow.Author.Needs.{needs}
 use Rattle.table.specs.Does.{does}
 use Rattle.table.proofs.Laws.Valid.{state}
 use Rattle.table.proofs.Laws.Looks.{vector-read-done}
-use Rattle.vector.proofs.Told.{refusals, shown-lit}
+use Rattle.vector.proofs.Told.{refusals, stays-lit}
 use Rattle.vector.proofs.Vector.read.Statement.{statement}
 use Rattle.vector.proofs.Vector.read.Tie as tie
 
@@ -22,4 +22,4 @@ read-spec =
     (λ c. omega state)
     (λ c κs. search needs)
     (λ c κs. search needs)
-    (λ c. search (vector-read-done, shown-lit)))
+    (λ c. search (vector-read-done, stays-lit)))

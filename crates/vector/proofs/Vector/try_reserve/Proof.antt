@@ -2,11 +2,12 @@
 use borrow.Author.Needs.{needs}
 use Rattle.table.specs.Does.{does}
 use Rattle.table.specs.Reported.{reported}
+use Rattle.table.specs.Totals.{totalAfter}
 use Rattle.vector.proofs.Vector.try_reserve.Statement.{statement}
 use Rattle.vector.proofs.Vector.try_reserve.Tie as tie
 
 pub try-reserve-spec : {M : Type 1} → statement M
-unfolding does reported
+unfolding does reported totalAfter
 try-reserve-spec =
     tie.close
     (tie.spec

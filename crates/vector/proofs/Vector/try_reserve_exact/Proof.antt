@@ -2,11 +2,12 @@
 use borrow.Author.Needs.{needs}
 use Rattle.table.specs.Does.{does}
 use Rattle.table.specs.Reported.{reported}
+use Rattle.table.specs.Totals.{totalAfter}
 use Rattle.vector.proofs.Vector.try_reserve_exact.Statement.{statement}
 use Rattle.vector.proofs.Vector.try_reserve_exact.Tie as tie
 
 pub try-reserve-exact-spec : {M : Type 1} → statement M
-unfolding does reported
+unfolding does reported totalAfter
 try-reserve-exact-spec =
     tie.close
     (tie.spec

@@ -13,9 +13,12 @@ with-capacity-spec =
     (tie.spec
     (λ c κs. search needs)
     (λ c κs. search needs)
+    (λ c κs. search needs)
     (λ c. search refusals)
     (λ c κs. search needs)
     (λ c κs. search needs)
+    (λ c κs. search needs)
     (λ c. search refusals)
+    (λ c κs. search needs)
     (λ c κs. search needs)
     (λ c. search (with-capacity-done, shown)))

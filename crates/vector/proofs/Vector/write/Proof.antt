@@ -24,5 +24,6 @@ write-spec =
     (λ c. omega state)
     (λ c κs. search needs)
     (λ c κs. search needs)
+    (λ c κs. search needs)
     (λ c. search needs)
     (λ c. search (vector-write-done, shown-lit)))

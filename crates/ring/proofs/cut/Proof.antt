@@ -1,0 +1,7 @@
+-- `ring::cut` meets its promise: the state is put together, then the answer.
+use borrow.Author.Needs.{needs}
+use Rattle.ring.proofs.cut.Statement.{statement}
+use Rattle.ring.proofs.cut.Tie as tie
+
+pub cut-spec : {M : Type 1} → statement M
+cut-spec = tie.close (tie.spec (λ c κs. search needs) (λ c κs. search needs) (λ c. cc))

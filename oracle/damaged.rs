@@ -5,12 +5,17 @@ use crate::pen::Pen;
 use crate::rng::Rng;
 
 fn is_operation(code: u8) -> bool {
-    ops::find(code).is_some() || (1..=7).contains(&code)
+    ops::find(code).is_some() || ops::PLACING.contains(&code)
 }
 
 fn good(rng: &mut Rng) -> Vec<u8> {
+    let code = if rng.one_in(4) { 1 + rng.below(9) as u8 } else { rng.pick(&ops::OPS.each_ref()).code };
+    written(code, rng.next(), rng.next())
+}
+
+fn written(code: u8, a: u64, b: u64) -> Vec<u8> {
     let mut line = Vec::new();
-    format::line(&mut line, rng.pick(&ops::OPS.each_ref()).code, rng.next(), rng.next());
+    format::line(&mut line, code, a, b);
     line
 }
 
@@ -31,6 +36,21 @@ pub fn each(pen: &mut Pen) {
     }
     pen.raw(b"12000000000000000000000000000000ab\r", true);
     reach(pen);
+    totals(pen);
+}
+
+// Any total can be placed, and it stays when a line that would place another can't be taken; a call then shows both.
+fn totals(pen: &mut Pen) {
+    for code in [0x08, 0x09] {
+        for a in [0x1e, 1 << 32, 1 << 63, u64::MAX] {
+            pen.line(code, a, !a);
+            let line = written(code, !a, a);
+            pen.raw(&line[..33], true);
+            pen.raw(&[&line[..], b"0"].concat(), true);
+            pen.raw(&[&line[..33], b"F"].concat(), true);
+            pen.line(0x12, 0, 0);
+        }
+    }
 }
 
 // One above each bound, and the bound itself.

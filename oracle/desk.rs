@@ -1,4 +1,5 @@
-// The desk that docs/REPLAY.md describes: two containers and a cursor, which stay from line to line. Lists come from `lists`, all else from `rules`.
+// The desk that docs/REPLAY.md describes: two containers and a cursor, which stay from line to line. Lists come from `lists`, totals from what those add
+// up to, all else from `rules`.
 use crate::format;
 use crate::lists;
 use crate::ops::{self, Act, Act::*, Kind, Kind::*, Op};
@@ -13,6 +14,7 @@ pub struct Tray {
     pub slots: Vec<u32>,
     pub head: u64,
     pub len: u64,
+    pub total: u64,
 }
 
 #[derive(Clone, Default, PartialEq)]
@@ -27,7 +29,16 @@ pub struct Desk {
 pub enum Taken {
     Placed,
     Refused, // the line can't be taken
-    Called(u8, u8), // operation and number
+    Called(u8, u8, [Total; 2]), // operation and number
+}
+
+// The total that a call was given for a container and the one that it left, and what the container's list added up to before; a state that isn't valid
+// has no list.
+#[derive(Clone, Copy, PartialEq, Eq, Debug)]
+pub struct Total {
+    pub given: u64,
+    pub left: u64,
+    pub sum: Option<u64>,
 }
 
 // What an answer has beside the desk.
@@ -50,12 +61,23 @@ impl Tray {
         rules::occupied(kind, self.state()).map(|k| self.slots[k]).collect()
     }
 
+    // What its list adds up to.
+    pub fn sum(&self, kind: Kind) -> Option<u64> {
+        rules::valid(kind, self.state()).then(|| sum(&self.list::<Vec<u32>>(kind)))
+    }
+
     fn place(&mut self, what: u8, a: u64, b: u64) {
         match what {
-            1 => *self = Tray { slots: vec![0; a as usize], head: 0, len: 0 },
+            1 => *self = Tray { slots: vec![0; a as usize], ..Tray::default() },
             2 => (self.head, self.len) = (a, b),
             _ => self.slots[a as usize] = b as u32,
         }
+    }
+
+    // By what Rust's own list adds up to before and after the call, whichever call it was: the program adds and takes off what that call puts in and takes
+    // out, and here is no such count in which both could slip alike.
+    fn count(&mut self, before: u64, after: u64) {
+        self.total = self.total.wrapping_add(after).wrapping_sub(before);
     }
 
     fn lay<'a>(&mut self, kind: Kind, before: State, head: u64, list: impl ExactSizeIterator<Item = &'a u32>) {
@@ -76,17 +98,19 @@ impl Desk {
 
     pub fn take_numbers(&mut self, code: u8, a: u64, b: u64, out: &mut Vec<u8>) -> Taken {
         let op = ops::find(code);
-        if op.is_none() && !(1..=7).contains(&code) {
+        if op.is_none() && !ops::PLACING.contains(&code) {
             return refuse(out, format::NO_OPERATION);
         }
         if !self.reaches(code, a, b) {
             return refuse(out, format::OUT_OF_REACH);
         }
         match (op, code) {
-            (Some(op), _) => return Taken::Called(code, self.call(op, a, b, out)),
+            (Some(op), _) => return self.call(op, a, b, out),
             (_, 1..=3) => self.first.place(code, a, b),
             (_, 4..=6) => self.second.place(code - 3, a, b),
-            _ => (self.front, self.back) = (a, b),
+            (_, 7) => (self.front, self.back) = (a, b),
+            (_, 8) => self.first.total = a,
+            _ => self.second.total = a,
         }
         Taken::Placed
     }
@@ -104,14 +128,28 @@ impl Desk {
         }
     }
 
-    fn call(&mut self, op: &Op, a: u64, b: u64, out: &mut Vec<u8>) -> u8 {
+    pub fn totals(&self) -> [u64; 2] {
+        [self.first.total, self.second.total]
+    }
+
+    // What the lists of a call add up to.
+    pub fn sums(&self, op: &Op) -> [Option<u64>; 2] {
+        [self.first.sum(op.kind), self.second.sum(ops::second_kind(op.act, op.kind))]
+    }
+
+    fn call(&mut self, op: &Op, a: u64, b: u64, out: &mut Vec<u8>) -> Taken {
         let (act, kind) = (op.act, op.kind);
+        let (given, sums) = (self.totals(), self.sums(op));
         // A vector has no head: none is looked at, and 0 is left.
         if kind == Vector {
             self.first.head = 0;
         }
         if ops::has_second(act) && ops::second_kind(act, kind) == Vector {
             self.second.head = 0;
+        }
+        // Nor is a making given a total.
+        if rules::is_making(act) {
+            self.first.total = 0;
         }
         let q = Asked { act, kind, a, b, first: self.first.state(), second: self.second.state(), front: self.front, back: self.back };
         let answer = if ops::is_part(act) {
@@ -125,7 +163,8 @@ impl Desk {
             Answer { number, ..answer }
         };
         self.print(&answer, out);
-        answer.number
+        let left = self.totals();
+        Taken::Called(op.code, answer.number, [0, 1].map(|k| Total { given: given[k], left: left[k], sum: sums[k] }))
     }
 
     fn done(&mut self, q: &Asked) -> Answer {
@@ -155,10 +194,13 @@ impl Desk {
         let other = if ops::has_second(q.act) { self.second.list(Ring) } else { VecDeque::new() };
         let mut lists: [VecDeque<u32>; 2] = [if rules::is_making(q.act) { VecDeque::new() } else { self.first.list(Ring) }, other];
         let [list, other] = &mut lists;
+        let sums = [sum(&*list), sum(&*other)];
         let value = lists::ring(q.act, q.a as usize, q.b as u32, list, other);
         self.first.lay(Ring, before, rules::head_after(q, list.len() as u64), list.iter());
+        self.first.count(sums[0], sum(&*list));
         if fills_second(q.act) {
             self.second.lay(Ring, q.second, 0, other.iter());
+            self.second.count(sums[1], sum(&*other));
         }
         self.changed(&Asked { first: before, ..*q }, value)
     }
@@ -171,10 +213,13 @@ impl Desk {
             _ => Vec::new(),
         };
         let mut list: Vec<u32> = if rules::is_making(q.act) { Vec::new() } else { self.first.list(Vector) };
+        let sums = [sum(&list), sum(&other)];
         let value = lists::vector(q.act, q.a as usize, q.b as u32, &mut list, &mut other);
         self.first.lay(Vector, before, 0, list.iter());
+        self.first.count(sums[0], sum(&list));
         if fills_second(q.act) {
             self.second.lay(Vector, q.second, 0, other.iter());
+            self.second.count(sums[1], sum(&other));
         }
         self.changed(&Asked { first: before, ..*q }, value)
     }
@@ -205,12 +250,14 @@ impl Desk {
         };
         (self.front, self.back) = (walked.front, walked.back);
         if let Some(filled) = walked.filled {
+            let before = sum(&self.second.list::<Vec<u32>>(Vector));
             self.second.lay(Vector, q.second, 0, filled.iter());
+            self.second.count(before, sum(&filled));
         }
         Answer { value: walked.value, ..Answer::default() }
     }
 
-    // A part bears no number: an invalid state or a range that isn't one lends the empty part.
+    // A part bears no number: an invalid state or a range that isn't one lends the empty part. What is written to it no total hears of.
     fn lend(&mut self, q: &Asked) -> Answer {
         let asked = if q.act == Range { AskRange } else { Len };
         let mut part = Vec::new();
@@ -234,7 +281,7 @@ impl Desk {
         let (first, second) = (&self.first, &self.second);
         let rest = [first.head, first.len, second.head, second.len, self.front, self.back];
         let slot = answer.slot.map_or(rules::NO_SLOT, |k| k as u64);
-        format::answer(out, answer.number, answer.value, answer.moves, rest, slot);
+        format::answer(out, answer.number, answer.value, answer.moves, rest, slot, self.totals());
         format::entries(out, &first.slots);
         format::entries(out, &second.slots);
         if let Some(part) = &answer.part {
@@ -244,6 +291,10 @@ impl Desk {
             format::text(out, text);
         }
     }
+}
+
+fn sum<'a>(list: impl IntoIterator<Item = &'a u32>) -> u64 {
+    list.into_iter().fold(0, |sum, &x| sum.wrapping_add(x as u64))
 }
 
 fn refuse(out: &mut Vec<u8>, words: &str) -> Taken {

@@ -2,7 +2,9 @@
 use crate::desk::Taken;
 use crate::ops::{self, Act, Act::*, Kind, Kind::*, Op, OPS};
 use crate::pen::Pen;
+use crate::rng::Rng;
 use crate::rules::{self, State};
+use crate::totals;
 
 const FIRST: u32 = 0xa0; // slot k of the first container holds FIRST + k, so that no two slots agree, free ones neither
 const SECOND: u32 = 0xb0;
@@ -36,14 +38,20 @@ impl Share {
     fn call(&mut self, pen: &mut Pen, op: &Op, a: u64, b: u64) {
         let turned = op.kind == Ring && pen.desk.first.head != 0;
         let second = ops::has_second(op.act) && ops::second_kind(op.act, op.kind) == Ring && pen.desk.second.head != 0 && pen.desk.second.len == 0;
-        let taken = pen.line(op.code, a, b);
+        let taken = self.made(pen, op, a, b);
         let first = turned && pen.desk.first.len == 0;
         self.log.push((taken, first as u8 + 2 * second as u8));
     }
 
     fn call_of(&mut self, group: u8, pen: &mut Pen, op: &Op, a: u64, b: u64) {
-        let taken = pen.line(op.code, a, b);
+        let taken = self.made(pen, op, a, b);
         self.log.push((taken, group));
+    }
+
+    // The totals go by the case's place in the order, so that a case has the same ones whether or not those before it are written.
+    fn made(&self, pen: &mut Pen, op: &Op, a: u64, b: u64) -> Taken {
+        totals::place(pen, &mut Rng::new((self.seen as u64).wrapping_mul(0x9e37_79b9_7f4a_7c15)), op);
+        pen.line(op.code, a, b)
     }
 }
 

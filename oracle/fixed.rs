@@ -1,4 +1,5 @@
 // The fixed list: some thousands of calls, the same on every machine, for the program's own test in the gate.
+use crate::by_hand;
 use crate::damaged;
 use crate::desk::Taken;
 use crate::exhaust::{self, Share};
@@ -23,7 +24,7 @@ pub fn run(dir: &str) -> Result<(), String> {
         pen.flush();
         pen.tally.clone()
     };
-    let missing: Vec<String> = tally.missing().iter().map(|(op, number)| format!("{} never answers {number}", op.name)).collect();
+    let missing = tally.missing();
     if !missing.is_empty() {
         return Err(format!("the fixed list lacks something: {}", missing.join(", ")));
     }
@@ -37,14 +38,16 @@ pub fn run(dir: &str) -> Result<(), String> {
     Ok(())
 }
 
-fn list(pen: &mut Pen) {
+pub fn list(pen: &mut Pen) {
     pen.say("Cases of the program replay, written by oracle/ (oracle fixed). A line with a # can't be taken, and says what comes after it.");
     pen.say("Nothing was placed yet: every container is empty.");
     for code in [0x12, 0x18, 0x22, 0x27, 0x40, 0x43, 0x44, 0x53, 0x60, 0x62, 0x39] {
         pen.line(code, 0, 0);
     }
-    pen.say("Paper 01: cases a to m; request 03: emptied rings; request 10: the slot that is reported; and the calls of paper 01's listing.");
+    pen.say("Paper 01: cases a to m; request 03: emptied rings; request 10: the slot that is reported; and the calls of paper 01's listing. Totals are right.");
     selfcheck::write_papers(pen);
+    pen.say("Request 04: totals, right and wrong, and those that pass 2^64 or 0.");
+    by_hand::write(pen);
     pen.say("A sample of the short cases: capacity 0 to 4, every head and length, valid or not.");
     pen.set_second(1, 1, &[0x51, 0x52]);
     pen.set_cursor(3, 2);
@@ -58,6 +61,7 @@ fn list(pen: &mut Pen) {
     pen.say("Lines that can't be taken, each kind, between calls that can.");
     pen.set_first(2, 3, &[11, 0, 9, 10]);
     pen.set_second(0, 0, &[]);
+    pen.set_totals(30, u64::MAX);
     damaged::each(pen);
     damaged::long(pen, &[100, 4095, 4096, 4097, 70_000]);
     pen.say("Capacities 16, 17, 256, 257, 4096, 4097 and 4200; only slots near an end or the middle are placed.");
@@ -74,7 +78,7 @@ fn sample() -> Vec<bool> {
     exhaust::every(&mut Pen::new(BATCH, Tally::new(), |_| {}), &mut all);
     let mut places: BTreeMap<(u8, u8, u8), Vec<usize>> = BTreeMap::new();
     for (k, &(taken, group)) in all.log.iter().enumerate() {
-        let key = if let Taken::Called(code, number) = taken { (code, number, group) } else { (0, 1, 0) };
+        let key = if let Taken::Called(code, number, _) = taken { (code, number, group) } else { (0, 1, 0) };
         places.entry(key).or_default().push(k);
     }
     let mut chosen = vec![false; all.log.len()];

@@ -35,8 +35,8 @@ pub fn parse(line: &[u8]) -> Option<(u8, u64, u64)> {
     Some((number(&line[..2])? as u8, number(&line[2..18])?, number(&line[18..])?))
 }
 
-// The first line of an answer; `rest` is head and length of both containers, front and back, and `slot` what the call reports.
-pub fn answer(out: &mut Vec<u8>, number: u8, value: u32, moves: u64, rest: [u64; 6], slot: u64) {
+// The first line of an answer; `rest` is head and length of both containers, front and back, `slot` what the call reports, and `totals` of both containers.
+pub fn answer(out: &mut Vec<u8>, number: u8, value: u32, moves: u64, rest: [u64; 6], slot: u64, totals: [u64; 2]) {
     digits::<2>(out, number as u64);
     out.push(b' ');
     digits::<8>(out, value as u64);
@@ -48,6 +48,10 @@ pub fn answer(out: &mut Vec<u8>, number: u8, value: u32, moves: u64, rest: [u64;
     }
     out.push(b' ');
     digits::<4>(out, slot);
+    for total in totals {
+        out.push(b' ');
+        digits::<16>(out, total);
+    }
     out.push(b'\n');
 }
 

@@ -1,8 +1,9 @@
 // Cases at the capacities where something changes: a byte's end, a power of two, the most that is permitted and above it.
-use crate::ops::{self, Act::*, Kind, Op, OPS};
+use crate::ops::{self, Act::*, Kind, Kind::*, Op, OPS};
 use crate::pen::Pen;
 use crate::rng::Rng;
 use crate::rules::{self, State};
+use crate::totals;
 
 // Every call on each of these, from heads and lengths at the bounds.
 pub fn every(pen: &mut Pen) {
@@ -39,6 +40,7 @@ fn one(pen: &mut Pen, rng: &mut Rng, op: &Op, slots: &[u32]) {
     }
     let (front, back) = (rng.pick(&at), rng.pick(&at));
     pen.set_cursor(front.min(back), front.max(back).min(len + rng.below(9) / 8));
+    totals::place(pen, rng, op);
     pen.line(op.code, a, b);
 }
 
@@ -85,6 +87,7 @@ fn turned(pen: &mut Pen, rng: &mut Rng, op: &Op, len: u64, changed: Option<u64>)
     }
     let (head, slots) = laid(rng, ops::second_kind(op.act, op.kind), &list);
     pen.set_second(head, len, &slots);
+    totals::place(pen, rng, op);
     pen.line(op.code, 0, 0);
 }
 
@@ -101,7 +104,7 @@ fn laid(rng: &mut Rng, kind: Kind, list: &[u32]) -> (u64, Vec<u32>) {
 
 type Call = (u8, u64, u64);
 
-// Capacity, head, length, and the calls from there.
+// Capacity, head, length, and the calls from there, with totals that are placed between them.
 const FEW: [(u64, u64, u64, &[Call]); 9] = [
     (16, 12, 15, &[(0x1a, 7, 1), (0x1a, 8, 1), (0x1b, 8, 0), (0x1a, 8, 2), (0x1b, 3, 0), (0x19, 0, 0), (0x17, 0, 3), (0x17, 0, 4), (0x1b, 15, 0), (0x1d, 16, 5)]),
     (17, 16, 9, &[(0x1a, 4, 1), (0x1a, 5, 1), (0x1b, 5, 0), (0x1b, 4, 0), (0x18, 0, 0), (0x1d, 17, 6), (0x16, 0, 7), (0x1c, 16, 0), (0x16, 0, 8), (0x1e, 0, 0)]),
@@ -122,15 +125,20 @@ const FEW: [(u64, u64, u64, &[Call]); 9] = [
         (0x1a, 2047, 1), (0x1b, 2048, 0), (0x1b, 2046, 0), (0x17, 0, 2), (0x19, 0, 0), (0x80, 36_881, 0), (0x80, 36_880, 0), (0x14, 3, 0),
         (0x1d, 4097, 0), (0x62, 0, 0), (0x27, 0, 0),
     ]),
-    // Above 4,096 slots every state is invalid, and a making is refused.
-    (4097, 1, 2, &[(0x16, 0, 1), (0x10, 0, 0), (0x11, 1, 0), (0x20, 0, 0), (0x21, 1, 0), (0x28, 1, 1)]),
+    // Above 4,096 slots every state is invalid, and a making is refused. Whatever the first's total (08), none is left; the second's (09) stays.
+    (4097, 1, 2, &[
+        (0x08, 5, 0), (0x09, 6, 0), (0x16, 0, 1), (0x10, 0, 0), (0x08, u64::MAX, 0), (0x11, 1, 0), (0x08, 5, 0), (0x20, 0, 0),
+        (0x08, 5, 0), (0x21, 1, 0), (0x08, u64::MAX, 0), (0x28, 1, 1),
+    ]),
     (4200, 4199, 3, &[(0x12, 0, 0), (0x39, 0, 0)]),
 ];
 
 // The few large calls of the fixed list: only slots near the ends and the middle are placed, since each call prints all of them.
 pub fn few(pen: &mut Pen) {
+    let mut rng = Rng::new(0xfe3);
     for (cap, head, len, calls) in FEW {
         wrapped(pen, cap, head, len);
+        totals::place_as(pen, &mut rng, [Ring, Vector]);
         for &(code, a, b) in calls {
             pen.line(code, a, b);
         }

@@ -1,4 +1,5 @@
 // The Rust side of the comparison: makes cases of `replay`, answers them with VecDeque, Vec and paper 01's rules, and compares.
+mod by_hand;
 mod compare;
 mod damaged;
 mod desk;
@@ -14,11 +15,13 @@ mod rng;
 mod rules;
 mod selfcheck;
 mod tally;
+mod totals;
+mod wrong;
 
 use std::io::{BufRead, Write};
 use std::process::exit;
 
-const USAGE: &str = "oracle selfcheck             paper 01's trays and a few more, against results written by hand
+const USAGE: &str = "oracle selfcheck             paper 01's trays and a few more, against results written by hand; wrong rules of a total
 oracle fixed DIR             writes the fixed list: DIR/stdin and what it must print, DIR/stdout
 oracle compare REPLAY [M]    compares the program REPLAY on all short cases and on random ones, M million calls in all (5)
 oracle answer                prints what the lines of the input must print";

@@ -103,6 +103,8 @@ pub const OPS: [Op; 66] = [
     op(0x81, Vector, Store, "vector stored", &[0, 1, 6]),
 ];
 
+pub const PLACING: std::ops::RangeInclusive<u8> = 1..=9;
+
 // Where a code stands in OPS; 255 where it is no operation.
 const PLACES: [u8; 256] = {
     let mut places = [255; 256];
@@ -141,4 +143,14 @@ pub fn has_entry(act: Act) -> bool {
 pub fn has_position(act: Act) -> bool {
     matches!(act, WithCapacity | FromElem | Read | AskRange | Reserve | TryReserve | TryReserveExact | Write | Insert | Remove | SwapRemove)
         || matches!(act, Truncate | Resize | Extend | Range | AsMutSlice | DerefMut | SplitOff | PeekFront | PeekBack | Store)
+}
+
+// Whether a done call may put entries into the first container, and into the second.
+pub fn puts(act: Act) -> [bool; 2] {
+    [matches!(act, Write | PushBack | PushFront | Insert | Resize | Extend | Append), matches!(act, SplitOff | Clone | FromIter)]
+}
+
+// Whether it may take entries out of them.
+pub fn takes(act: Act) -> [bool; 2] {
+    [matches!(act, Write | PopBack | PopFront | Remove | SwapRemove | Truncate | Resize | Clear | SplitOff), act == Append]
 }

@@ -82,6 +82,16 @@ impl<'a> Pen<'a> {
         self.set(3, &now, head, len, slots);
     }
 
+    // The number that isn't looked at is another one.
+    pub fn set_totals(&mut self, first: u64, second: u64) {
+        let now = self.desk.totals();
+        for (code, total, now) in [(8, first, now[0]), (9, second, now[1])] {
+            if total != now {
+                self.line(code, total, !total);
+            }
+        }
+    }
+
     pub fn set_cursor(&mut self, front: u64, back: u64) {
         if (self.desk.front, self.desk.back) != (front, back) {
             self.line(7, front, back);
@@ -111,6 +121,7 @@ pub fn placing(desk: &Desk) -> Vec<u8> {
         let mut pen = Pen::new(usize::MAX, Tally::new(), |batch: Batch| lines = batch.input);
         pen.set_first(desk.first.head, desk.first.len, &desk.first.slots);
         pen.set_second(desk.second.head, desk.second.len, &desk.second.slots);
+        pen.set_totals(desk.first.total, desk.second.total);
         pen.set_cursor(desk.front, desk.back);
         pen.flush();
     }

@@ -5,6 +5,7 @@ use crate::ops::{self, Act::*, Kind, Kind::*, Op, OPS};
 use crate::pen::Pen;
 use crate::rng::Rng;
 use crate::rules;
+use crate::totals;
 
 const WIDE: [u64; 8] = [u32::MAX as u64, 1 << 32, (1 << 32) + 1, (1 << 63) - 1, 1 << 63, (1 << 63) + 1, u64::MAX - 1, u64::MAX];
 
@@ -29,10 +30,11 @@ impl Random {
             9..=16 => &[Vector],
             _ => &[Ring, Vector],
         };
+        totals::place_as(pen, &mut self.rng, [kinds[0]; 2]);
         let most = if self.rng.one_in(10) { 90 } else { 24 };
         let calls = 1 + self.rng.below(most);
         for _ in 0..calls {
-            self.between(pen);
+            self.between(pen, kinds[0]);
             self.call(pen, kinds);
         }
     }
@@ -116,7 +118,7 @@ impl Random {
     // The second becomes what the first is, half the time turned to another head, and now and then with one slot changed: else two containers would
     // hardly ever agree.
     fn copy_first(&mut self, pen: &mut Pen) {
-        let Tray { mut slots, mut head, len } = pen.desk.first.clone();
+        let Tray { mut slots, mut head, len, .. } = pen.desk.first.clone();
         if slots.len() < 300 {
             if len > 0 && head < slots.len() as u64 && self.rng.one_in(2) {
                 let by = self.rng.below(slots.len() as u64);
@@ -139,7 +141,7 @@ impl Random {
     }
 
     // What may stand between two calls. An emptied container is soon filled again, else most calls would be refused.
-    fn between(&mut self, pen: &mut Pen) {
+    fn between(&mut self, pen: &mut Pen, kind: Kind) {
         let emptied = pen.desk.first.len == 0 && self.rng.one_in(3);
         match if emptied { 4 } else { self.rng.below(60) } {
             0 => damaged::some(pen, &mut self.rng),
@@ -159,6 +161,7 @@ impl Random {
                 pen.line(code, k, x);
             }
             11 => self.copy_first(pen),
+            12..=13 => totals::place_as(pen, &mut self.rng, [kind; 2]),
             _ => {}
         }
     }

@@ -1,8 +1,10 @@
-// Checks the desk's answers against results written by hand: paper 01's cases a to m and its listing, request 03's emptied rings, request 10's slots, and
-// answers to the byte for what those leave out.
+// Checks the desk's answers against results written by hand: paper 01's cases a to m and its listing, request 03's emptied rings, request 10's slots,
+// request 04's totals (by_hand.rs), and answers to the byte for what those leave out; and that a wrong rule of a total is noticed (wrong.rs).
+use crate::by_hand;
 use crate::desk::{Desk, Taken};
 use crate::ops::{self, Op, OPS};
 use crate::pen::Pen;
+use crate::wrong;
 
 struct Case {
     name: &'static str,
@@ -122,13 +124,16 @@ fn cases() -> impl Iterator<Item = &'static Case> {
     PAPER.iter().chain(&EMPTIED).chain(&REPORTED)
 }
 
-// The papers' cases as lines of a list.
+// The papers' cases as lines of a list, each with the right total.
 pub fn write_papers(pen: &mut Pen) {
     for case in cases() {
         pen.set_first(case.from.0, case.from.1, case.from.2);
+        let right = ops::find(case.call.0).and_then(|op| pen.desk.sums(op)[0]);
+        pen.set_totals(right.unwrap_or(0), 0);
         pen.line(case.call.0, case.call.1, case.call.2);
     }
     pen.set_first(0, 0, &[0; 4]);
+    pen.set_totals(0, 0);
     for (call, _) in &LISTING {
         pen.line(call.0, call.1, call.2);
     }
@@ -147,10 +152,12 @@ pub fn run() -> Result<(), String> {
     let bytes = to_the_byte()?;
     let counts = shorter_side()?;
     let (found, none) = looked_for()?;
+    let totals = by_hand::agree()?;
+    let rules = wrong::noticed()?;
     let (paper, emptied, reported) = (PAPER.len(), EMPTIED.len(), REPORTED.len());
-    println!("oracle selfcheck: {paper} cases of paper 01, its listing, {emptied} of request 03, {reported} of request 10 and {bytes} answers to the byte agree");
-    println!("with what was written by hand, {counts} counts of moves with the paper's formula for a ring, and {found} slots reported with where the entry is found;");
-    println!("{none} calls report none, as they must");
+    println!("oracle selfcheck: {paper} cases of paper 01, its listing, {emptied} of request 03, {reported} of request 10, {totals} of request 04 and {bytes} answers to the byte");
+    println!("agree with what was written by hand, {counts} counts of moves with the paper's formula for a ring, and {found} slots reported with where the entry is");
+    println!("found; {none} calls report none, as they must; the fixed list notices each of {rules} wrong rules of a total");
     Ok(())
 }
 
@@ -238,13 +245,13 @@ fn called(desk: &mut Desk, (code, a, b): (u8, u64, u64)) -> Result<Answer, Strin
     let text = String::from_utf8(out).map_err(|e| e.to_string())?;
     let fields: Option<Vec<u64>> = text.lines().next().map(|line| line.split(' ').map_while(|x| u64::from_str_radix(x, 16).ok()).collect());
     match (taken, fields.as_deref()) {
-        (Taken::Called(_, number), Some(&[n, value, moves, _, _, _, _, _, _, slot])) if n == number as u64 => Ok((number, value as u32, moves, slot)),
+        (Taken::Called(_, number, _), Some(&[n, value, moves, _, _, _, _, _, _, slot, _, _])) if n == number as u64 => Ok((number, value as u32, moves, slot)),
         _ => Err(format!("the desk printed {text:?} for operation {code:02x}")),
     }
 }
 
 // Lines with what they print, both written by hand: `_` stands for ten 0, so that they can be read.
-const BYTES: [(&str, &str); 42] = [
+const BYTES: [(&str, &str); 49] = [
     ("01_000004_000000", ""),
     ("02_0000002_0000003", "! not 34 lower-case hexadecimal digits\n"),
     ("02_000002_000003", ""),
@@ -255,44 +262,54 @@ const BYTES: [(&str, &str); 42] = [
     ("04_000002_000000", ""),
     ("06_000001_0000ee", ""),
     ("06_000002_000000", "! out of reach\n"),
-    ("08_000002_000000", "! no such operation\n"),
+    ("0a_000002_000000", "! no such operation\n"),
     ("03_000002_00000A", "! not 34 lower-case hexadecimal digits\n"),
+    // the first's total is right, 30; T's is wrong by 5
+    ("08_00001e_000001", ""),
+    ("09_000005_000001", ""),
+    ("08_000002_00000A", "! not 34 lower-case hexadecimal digits\n"),
     // W with a stale free slot: insert 1, 8
-    ("1a_000001_000008", "00 00000000 _000001 _000001 _000004 _000000 _000000 _000000 _000000 0002\n0000000b\n00000009\n00000008\n0000000a\n00000000\n000000ee\n"),
-    // split_off 3 leaves 0 where the last stood, and the other slot of T is kept
-    ("41_000003_000000", "00 00000000 _000000 _000001 _000003 _000000 _000001 _000000 _000000 ffff\n00000000\n00000009\n00000008\n0000000a\n0000000b\n000000ee\n"),
-    ("41_000003_000000", "05 00000000 _000000 _000001 _000003 _000000 _000001 _000000 _000000 ffff\n00000000\n00000009\n00000008\n0000000a\n0000000b\n000000ee\n"),
-    ("61_000000_000000", "00 00000000 _000000 _000001 _000003 _000000 _000001 _000000 _000003 ffff\n00000000\n00000009\n00000008\n0000000a\n0000000b\n000000ee\n"),
-    ("63_000000_000000", "00 0000000a _000000 _000001 _000003 _000000 _000001 _000000 _000002 ffff\n00000000\n00000009\n00000008\n0000000a\n0000000b\n000000ee\n"),
-    ("65_000001_000000", "00 00000009 _000000 _000001 _000003 _000000 _000001 _000000 _000002 ffff\n00000000\n00000009\n00000008\n0000000a\n0000000b\n000000ee\n"),
+    ("1a_000001_000008", "00 00000000 _000001 _000001 _000004 _000000 _000000 _000000 _000000 0002 _000026 _000005\n0000000b\n00000009\n00000008\n0000000a\n00000000\n000000ee\n"),
+    // split_off 3 leaves 0 where the last, 11, stood, and the other slot of T is kept
+    ("41_000003_000000", "00 00000000 _000000 _000001 _000003 _000000 _000001 _000000 _000000 ffff _00001b _000010\n00000000\n00000009\n00000008\n0000000a\n0000000b\n000000ee\n"),
+    ("41_000003_000000", "05 00000000 _000000 _000001 _000003 _000000 _000001 _000000 _000000 ffff _00001b _000010\n00000000\n00000009\n00000008\n0000000a\n0000000b\n000000ee\n"),
+    ("61_000000_000000", "00 00000000 _000000 _000001 _000003 _000000 _000001 _000000 _000003 ffff _00001b _000010\n00000000\n00000009\n00000008\n0000000a\n0000000b\n000000ee\n"),
+    ("63_000000_000000", "00 0000000a _000000 _000001 _000003 _000000 _000001 _000000 _000002 ffff _00001b _000010\n00000000\n00000009\n00000008\n0000000a\n0000000b\n000000ee\n"),
+    ("65_000001_000000", "00 00000009 _000000 _000001 _000003 _000000 _000001 _000000 _000002 ffff _00001b _000010\n00000000\n00000009\n00000008\n0000000a\n0000000b\n000000ee\n"),
     ("05_000009_000000", ""),
-    // from_iter: T is a vector, so its head 9 is not looked at
-    ("66_000000_000000", "00 00000000 _000000 _000001 _000003 _000000 _000002 _000002 _000002 ffff\n00000000\n00000009\n00000008\n0000000a\n00000009\n00000008\n"),
-    ("62_000000_000000", "04 00000000 _000000 _000001 _000003 _000000 _000002 _000002 _000002 ffff\n00000000\n00000009\n00000008\n0000000a\n00000009\n00000008\n"),
+    // from_iter, of 9 and 8: T is a vector, so its head 9 is not looked at
+    ("66_000000_000000", "00 00000000 _000000 _000001 _000003 _000000 _000002 _000002 _000002 ffff _00001b _000021\n00000000\n00000009\n00000008\n0000000a\n00000009\n00000008\n"),
+    ("62_000000_000000", "04 00000000 _000000 _000001 _000003 _000000 _000002 _000002 _000002 ffff _00001b _000021\n00000000\n00000009\n00000008\n0000000a\n00000009\n00000008\n"),
     // no room for two more: both stay whole
-    ("40_000000_000000", "06 00000000 _000000 _000001 _000003 _000000 _000002 _000002 _000002 ffff\n00000000\n00000009\n00000008\n0000000a\n00000009\n00000008\n"),
+    ("40_000000_000000", "06 00000000 _000000 _000001 _000003 _000000 _000002 _000002 _000002 ffff _00001b _000021\n00000000\n00000009\n00000008\n0000000a\n00000009\n00000008\n"),
     ("01_000001_000000", ""),
     ("02_000000_000001", ""),
-    ("80_00001a_000000", "00 0000001a _000000 _000000 _000001 _000000 _000002 _000002 _000002 ffff\n00000000\n00000009\n00000008\n0000000100000001\n00000000\n\n"),
-    ("81_00001b_000000", "00 0000001a _000000 _000000 _000001 _000000 _000002 _000002 _000002 ffff\n00000000\n00000009\n00000008\n0100000100000001\n00000000\n-\n"),
-    ("80_000003_000000", "06 00000000 _000000 _000000 _000001 _000000 _000002 _000002 _000002 ffff\n00000000\n00000009\n00000008\n---\n"),
-    ("3c_000000_000007", "00 00000001 _000000 _000000 _000001 _000000 _000002 _000002 _000002 ffff\n00000007\n00000009\n00000008\n00000000\n"),
-    ("11_000002_000000", "06 00000000 _000000 _000000 _000000 _000000 _000002 _000002 _000002 ffff\n00000007\n00000009\n00000008\n"),
-    ("2f_000001_000000", "00 00000000 _000000 _000000 _000001 _000000 _000002 _000002 _000002 ffff\n00000009\n00000009\n00000008\n"),
-    // 8, 9 from slot 2 of three, and from slot 1 of two: the same rings; read as a vector the second holds 9, 8 at first
+    ("80_00001a_000000", "00 0000001a _000000 _000000 _000001 _000000 _000002 _000002 _000002 ffff _000000 _000021\n00000000\n00000009\n00000008\n0000000100000001\n00000000\n\n"),
+    ("81_00001b_000000", "00 0000001a _000000 _000000 _000001 _000000 _000002 _000002 _000002 ffff _000000 _000021\n00000000\n00000009\n00000008\n0100000100000001\n00000000\n-\n"),
+    ("08ffffffffffffffff_000000", ""),
+    ("80_000003_000000", "06 00000000 _000000 _000000 _000001 _000000 _000002 _000002 _000002 ffff ffffffffffffffff _000021\n00000000\n00000009\n00000008\n---\n"),
+    ("3c_000000_000007", "00 00000001 _000000 _000000 _000001 _000000 _000002 _000002 _000002 ffff ffffffffffffffff _000021\n00000007\n00000009\n00000008\n00000000\n"),
+    // a refused making leaves no total
+    ("11_000002_000000", "06 00000000 _000000 _000000 _000000 _000000 _000002 _000002 _000002 ffff _000000 _000021\n00000007\n00000009\n00000008\n"),
+    ("2f_000001_000000", "00 00000000 _000000 _000000 _000001 _000000 _000002 _000002 _000002 ffff _000009 _000021\n00000009\n00000009\n00000008\n"),
+    // 8, 9 from slot 2 of three, and from slot 1 of two: the same rings, whatever the totals; read as a vector the second holds 9, 8 at first
     ("01_000003_000000", ""),
     ("02_000002_000002", ""),
     ("03_000000_000009", ""),
     ("03_000002_000008", ""),
     ("05_000001_000002", ""),
-    ("43_000000_000000", "00 00000001 _000000 _000002 _000002 _000001 _000002 _000002 _000002 ffff\n00000009\n00000000\n00000008\n00000009\n00000008\n"),
-    ("44_000000_000000", "00 00000000 _000000 _000002 _000002 _000000 _000002 _000002 _000002 ffff\n00000009\n00000000\n00000008\n00000009\n00000008\n"),
-    ("43_000000_000000", "00 00000000 _000000 _000002 _000002 _000000 _000002 _000002 _000002 ffff\n00000009\n00000000\n00000008\n00000009\n00000008\n"),
+    ("43_000000_000000", "00 00000001 _000000 _000002 _000002 _000001 _000002 _000002 _000002 ffff _000000 _000021\n00000009\n00000000\n00000008\n00000009\n00000008\n"),
+    ("44_000000_000000", "00 00000000 _000000 _000002 _000002 _000000 _000002 _000002 _000002 ffff _000000 _000021\n00000009\n00000000\n00000008\n00000009\n00000008\n"),
+    ("43_000000_000000", "00 00000000 _000000 _000002 _000002 _000000 _000002 _000002 _000002 ffff _000000 _000021\n00000009\n00000000\n00000008\n00000009\n00000008\n"),
     ("06_000000_000008", ""),
     ("06_000001_000009", ""),
-    ("44_000000_000000", "00 00000001 _000000 _000002 _000002 _000000 _000002 _000002 _000002 ffff\n00000009\n00000000\n00000008\n00000008\n00000009\n"),
+    ("44_000000_000000", "00 00000001 _000000 _000002 _000002 _000000 _000002 _000002 _000002 ffff _000000 _000021\n00000009\n00000000\n00000008\n00000008\n00000009\n"),
     // as vectors the first holds 9, 0
-    ("53_000000_000000", "00 00000000 _000000 _000000 _000002 _000000 _000002 _000002 _000002 ffff\n00000009\n00000000\n00000008\n00000008\n00000009\n"),
+    ("53_000000_000000", "00 00000000 _000000 _000000 _000002 _000000 _000002 _000002 _000002 ffff _000000 _000021\n00000009\n00000000\n00000008\n00000008\n00000009\n"),
+    // 0 less the 9 that goes, plus the 2 that comes; then the second's slots are placed anew, and its total with them
+    ("25_000000_000002", "00 00000009 _000000 _000000 _000002 _000000 _000002 _000002 _000002 0000 fffffffffffffff9 _000021\n00000002\n00000000\n00000008\n00000008\n00000009\n"),
+    ("04_000001_000000", ""),
+    ("26_000000_000007", "00 00000000 _000000 _000000 _000003 _000000 _000000 _000002 _000002 0002 _000000 _000000\n00000002\n00000000\n00000007\n00000000\n"),
 ];
 
 fn to_the_byte() -> Result<usize, String> {

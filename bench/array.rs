@@ -46,6 +46,11 @@ fn truncate<const C: usize>(v: &mut ArrayVec<u32, C>, k: usize) {
     v.truncate(k)
 }
 
+#[inline(never)]
+fn total<const C: usize>(v: &ArrayVec<u32, C>) -> u64 {
+    v.iter().map(|&x| x as u64).sum()
+}
+
 impl<const C: usize> Vector<C> {
     #[inline(always)]
     fn it(self) -> &'static mut ArrayVec<u32, C> {
@@ -97,6 +102,11 @@ impl<const C: usize> work::Vector for Vector<C> {
     #[inline(always)]
     fn extend(self, s: &[u32]) -> u64 {
         extend(self.it(), s)
+    }
+
+    #[inline(always)]
+    fn total(self) -> u64 {
+        total(self.it())
     }
 
     #[inline(always)]

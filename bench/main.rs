@@ -90,7 +90,7 @@ impl Found {
     }
 
     fn line(&self) -> String {
-        let ratios = self.ratios.iter().map(|r| format!("{r:.2}")).collect::<Vec<_>>();
+        let ratios = self.ratios.iter().map(|&r| if r < 0.1 { format!("{r:.3}") } else { format!("{r:.2}") }).collect::<Vec<_>>();
         format!("| {} | {} | {} |", self.name, ratios.join(" | "), self.spans.join(" | "))
     }
 

@@ -4,37 +4,38 @@ use crate::work;
 
 // An answer: the value in the low 32 bits, the slot in the next 16, the moves in the next 12, the number in the high 4.
 type Word = u64;
-type State = [usize; 2]; // a ring's head and length
+type RingState = [u64; 3]; // its head, length and total
+type VectorState = [u64; 2]; // its length and total
 
 extern "C" {
-    fn tum_ring_push_back(slots: *mut u32, cap: usize, state: *mut State, x: u32) -> Word;
-    fn tum_ring_push_front(slots: *mut u32, cap: usize, state: *mut State, x: u32) -> Word;
-    fn tum_ring_pop_back(slots: *mut u32, cap: usize, state: *mut State) -> Word;
-    fn tum_ring_pop_front(slots: *mut u32, cap: usize, state: *mut State) -> Word;
-    fn tum_ring_read(slots: *const u32, cap: usize, state: *const State, i: usize) -> Word;
-    fn tum_ring_insert(slots: *mut u32, cap: usize, state: *mut State, i: usize, x: u32) -> Word;
-    fn tum_ring_remove(slots: *mut u32, cap: usize, state: *mut State, i: usize) -> Word;
-    fn tum_ring_clear(slots: *mut u32, cap: usize, state: *mut State) -> Word;
-    fn tum_ring_resize(slots: *mut u32, cap: usize, state: *mut State, k: usize, x: u32) -> Word;
-    fn tum_ring_append(slots: *mut u32, cap: usize, state: *mut State, theirs: *mut u32, room: usize, other: *mut State) -> Word;
-    fn tum_ring_clone(slots: *const u32, cap: usize, state: *const State, theirs: *mut u32, room: usize, other: *mut State) -> Word;
-    fn tum_ring_same(slots: *const u32, cap: usize, state: *const State, theirs: *const u32, room: usize, other: *const State) -> Word;
-    fn tum_ring_same_as_vector(slots: *const u32, cap: usize, state: *const State, theirs: *const u32, room: usize, other: *const usize) -> Word;
-    fn tum_vector_equal(slots: *const u32, cap: usize, len: *const usize, theirs: *const u32, room: usize, other: *const usize) -> Word;
-    fn tum_ring_step_front(slots: *const u32, cap: usize, state: *const State, cursor: *mut [usize; 2]) -> Word;
-    fn tum_vector_push(slots: *mut u32, cap: usize, len: *mut usize, x: u32) -> Word;
-    fn tum_vector_pop(slots: *mut u32, cap: usize, len: *mut usize) -> Word;
-    fn tum_vector_read(slots: *const u32, cap: usize, len: *const usize, i: usize) -> Word;
-    fn tum_vector_insert(slots: *mut u32, cap: usize, len: *mut usize, i: usize, x: u32) -> Word;
-    fn tum_vector_remove(slots: *mut u32, cap: usize, len: *mut usize, i: usize) -> Word;
-    fn tum_vector_swap_remove(slots: *mut u32, cap: usize, len: *mut usize, i: usize) -> Word;
-    fn tum_vector_extend_from_slice(slots: *mut u32, cap: usize, len: *mut usize, s: *const u32, count: usize) -> Word;
-    fn tum_vector_truncate(slots: *mut u32, cap: usize, len: *mut usize, k: usize) -> Word;
+    fn tum_ring_push_back(slots: *mut u32, cap: usize, state: *mut RingState, x: u32) -> Word;
+    fn tum_ring_push_front(slots: *mut u32, cap: usize, state: *mut RingState, x: u32) -> Word;
+    fn tum_ring_pop_back(slots: *mut u32, cap: usize, state: *mut RingState) -> Word;
+    fn tum_ring_pop_front(slots: *mut u32, cap: usize, state: *mut RingState) -> Word;
+    fn tum_ring_read(slots: *const u32, cap: usize, state: *const RingState, i: usize) -> Word;
+    fn tum_ring_insert(slots: *mut u32, cap: usize, state: *mut RingState, i: usize, x: u32) -> Word;
+    fn tum_ring_remove(slots: *mut u32, cap: usize, state: *mut RingState, i: usize) -> Word;
+    fn tum_ring_clear(slots: *mut u32, cap: usize, state: *mut RingState) -> Word;
+    fn tum_ring_resize(slots: *mut u32, cap: usize, state: *mut RingState, k: usize, x: u32) -> Word;
+    fn tum_ring_append(slots: *mut u32, cap: usize, state: *mut RingState, theirs: *mut u32, room: usize, other: *mut RingState) -> Word;
+    fn tum_ring_clone(slots: *const u32, cap: usize, state: *const RingState, theirs: *mut u32, room: usize, other: *mut RingState) -> Word;
+    fn tum_ring_same(slots: *const u32, cap: usize, state: *const RingState, theirs: *const u32, room: usize, other: *const RingState) -> Word;
+    fn tum_ring_same_as_vector(slots: *const u32, cap: usize, state: *const RingState, theirs: *const u32, room: usize, other: *const VectorState) -> Word;
+    fn tum_vector_equal(slots: *const u32, cap: usize, state: *const VectorState, theirs: *const u32, room: usize, other: *const VectorState) -> Word;
+    fn tum_ring_step_front(slots: *const u32, cap: usize, state: *const RingState, cursor: *mut [usize; 2]) -> Word;
+    fn tum_vector_push(slots: *mut u32, cap: usize, state: *mut VectorState, x: u32) -> Word;
+    fn tum_vector_pop(slots: *mut u32, cap: usize, state: *mut VectorState) -> Word;
+    fn tum_vector_read(slots: *const u32, cap: usize, state: *const VectorState, i: usize) -> Word;
+    fn tum_vector_insert(slots: *mut u32, cap: usize, state: *mut VectorState, i: usize, x: u32) -> Word;
+    fn tum_vector_remove(slots: *mut u32, cap: usize, state: *mut VectorState, i: usize) -> Word;
+    fn tum_vector_swap_remove(slots: *mut u32, cap: usize, state: *mut VectorState, i: usize) -> Word;
+    fn tum_vector_extend_from_slice(slots: *mut u32, cap: usize, state: *mut VectorState, s: *const u32, count: usize) -> Word;
+    fn tum_vector_truncate(slots: *mut u32, cap: usize, state: *mut VectorState, k: usize) -> Word;
 }
 
 static mut LENT: [Page; 2] = [const { Page::of(0) }; 2];
-static mut STATE: [Line<State>; 2] = [const { Line([0; 2]) }; 2];
-static mut LEN: [Line<usize>; 2] = [const { Line(0) }; 2];
+static mut RING: [Line<RingState>; 2] = [const { Line([0; 3]) }; 2];
+static mut VECTOR: [Line<VectorState>; 2] = [const { Line([0; 2]) }; 2];
 
 #[inline(always)]
 fn done(w: Word) -> u64 {
@@ -71,7 +72,7 @@ pub struct Vector<const C: usize>;
 
 macro_rules! of_ring {
     ($call:ident $(, $arg:expr)*) => {
-        unsafe { $call((&raw mut LENT[WHICH].slots).cast(), C, &raw mut STATE[WHICH].0 $(, $arg)*) }
+        unsafe { $call((&raw mut LENT[WHICH].slots).cast(), C, &raw mut RING[WHICH].0 $(, $arg)*) }
     };
 }
 
@@ -79,8 +80,8 @@ macro_rules! of_pair {
     ($call:ident, $first:literal, $second:literal) => {
         unsafe {
             $call(
-                (&raw mut LENT[$first].slots).cast(), C, &raw mut STATE[$first].0,
-                (&raw mut LENT[$second].slots).cast(), C, &raw mut STATE[$second].0,
+                (&raw mut LENT[$first].slots).cast(), C, &raw mut RING[$first].0,
+                (&raw mut LENT[$second].slots).cast(), C, &raw mut RING[$second].0,
             )
         }
     };
@@ -88,13 +89,13 @@ macro_rules! of_pair {
 
 macro_rules! of_vector {
     ($call:ident $(, $arg:expr)*) => {
-        unsafe { $call((&raw mut LENT[0].slots).cast(), C, &raw mut LEN[0].0 $(, $arg)*) }
+        unsafe { $call((&raw mut LENT[0].slots).cast(), C, &raw mut VECTOR[0].0 $(, $arg)*) }
     };
 }
 
 impl<const C: usize, const WHICH: usize> work::Ring for Ring<C, WHICH> {
     fn make() -> Self {
-        unsafe { STATE[WHICH].0 = [0; 2] };
+        unsafe { RING[WHICH].0 = [0; 3] };
         Ring
     }
 
@@ -147,12 +148,18 @@ impl<const C: usize, const WHICH: usize> work::Ring for Ring<C, WHICH> {
 
     #[inline(always)]
     fn begin(self) -> [usize; 2] {
-        unsafe { [0, STATE[WHICH].0[1]] }
+        unsafe { [0, RING[WHICH].0[1] as usize] }
     }
 
     #[inline(always)]
     fn step(self, u: &mut [usize; 2]) -> Option<u32> {
         entry(of_ring!(tum_ring_step_front, u))
+    }
+
+    // No call of ours: a caller looks into the state. It does so behind a call too, as all else is.
+    #[inline(always)]
+    fn total(self) -> u64 {
+        rust::number(unsafe { &*(&raw const RING[WHICH].0[2]) })
     }
 }
 
@@ -177,7 +184,7 @@ impl<const C: usize> work::Pair for Rings<C> {
     // T as `new` makes it: no slot is touched.
     #[inline(always)]
     fn clone_to(self) -> u64 {
-        unsafe { STATE[0].0 = [0; 2] };
+        unsafe { RING[0].0 = [0; 3] };
         done(of_pair!(tum_ring_clone, 1, 0))
     }
 }
@@ -189,11 +196,12 @@ macro_rules! of_two {
     };
 }
 
+// A vector of 0 .. n, with its total.
 fn lay<const C: usize>(which: usize, n: usize) {
     for k in 0..n {
         unsafe { LENT[which].slots[k] = k as u32 };
     }
-    unsafe { LEN[which].0 = n };
+    unsafe { VECTOR[which].0 = [n as u64, (0..n as u64).sum()] };
 }
 
 impl<const C: usize> work::Alike for Turned<C> {
@@ -204,7 +212,7 @@ impl<const C: usize> work::Alike for Turned<C> {
 
     #[inline(always)]
     fn same(self) -> Option<u32> {
-        of_two!(tum_ring_same, STATE[0].0, STATE[1].0)
+        of_two!(tum_ring_same, RING[0].0, RING[1].0)
     }
 }
 
@@ -219,7 +227,7 @@ impl<const C: usize> work::Alike for Nearly<C> {
 
     #[inline(always)]
     fn same(self) -> Option<u32> {
-        of_two!(tum_ring_same, STATE[0].0, STATE[1].0)
+        of_two!(tum_ring_same, RING[0].0, RING[1].0)
     }
 }
 
@@ -232,7 +240,7 @@ impl<const C: usize> work::Alike for Mixed<C> {
 
     #[inline(always)]
     fn same(self) -> Option<u32> {
-        of_two!(tum_ring_same_as_vector, STATE[0].0, LEN[1].0)
+        of_two!(tum_ring_same_as_vector, RING[0].0, VECTOR[1].0)
     }
 }
 
@@ -245,13 +253,13 @@ impl<const C: usize> work::Alike for Vectors<C> {
 
     #[inline(always)]
     fn same(self) -> Option<u32> {
-        of_two!(tum_vector_equal, LEN[0].0, LEN[1].0)
+        of_two!(tum_vector_equal, VECTOR[0].0, VECTOR[1].0)
     }
 }
 
 impl<const C: usize> work::Vector for Vector<C> {
     fn make() -> Self {
-        unsafe { LEN[0].0 = 0 };
+        unsafe { VECTOR[0].0 = [0; 2] };
         Vector
     }
 
@@ -295,9 +303,14 @@ impl<const C: usize> work::Vector for Vector<C> {
         done(of_vector!(tum_vector_extend_from_slice, s.as_ptr(), s.len()))
     }
 
+    #[inline(always)]
+    fn total(self) -> u64 {
+        rust::number(unsafe { &*(&raw const VECTOR[0].0[1]) })
+    }
+
     // As `new` makes it: no slot is touched.
     #[inline(always)]
     fn anew(self) {
-        unsafe { LEN[0].0 = 0 };
+        unsafe { VECTOR[0].0 = [0; 2] };
     }
 }

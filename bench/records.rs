@@ -67,17 +67,19 @@ fn sides() -> Vec<Side> {
 mod ours {
     use super::*;
 
+    type State = [u64; 2]; // a vector's length and total
+
     extern "C" {
         fn tum_record_read(
             text: *const u8, count: usize,
-            starts: *mut u32, starts_room: usize, starts_len: *mut usize,
-            ends: *mut u32, ends_room: usize, ends_len: *mut usize,
+            starts: *mut u32, starts_room: usize, starts_state: *mut State,
+            ends: *mut u32, ends_room: usize, ends_state: *mut State,
         ) -> u64;
     }
 
     static mut STARTS: Page = Page::of(0);
     static mut ENDS: Page = Page::of(0);
-    static mut LENS: [Line<usize>; 2] = [const { Line(0) }; 2];
+    static mut STATES: [Line<State>; 2] = [const { Line([0; 2]) }; 2];
 
     // A call for each record, on what comes from its start on; two vectors as `new` makes them. `each` gets that window, the starts and the ends.
     #[inline(always)]
@@ -86,16 +88,17 @@ mod ours {
         while at < text.len() {
             let window = &text[at..text.len().min(at + WINDOW)];
             let word = unsafe {
-                LENS[0].0 = 0;
-                LENS[1].0 = 0;
+                STATES[0].0 = [0; 2];
+                STATES[1].0 = [0; 2];
                 tum_record_read(
                     window.as_ptr(), window.len(),
-                    (&raw mut STARTS.slots).cast(), ROOM, &raw mut LENS[0].0,
-                    (&raw mut ENDS.slots).cast(), ROOM, &raw mut LENS[1].0,
+                    (&raw mut STARTS.slots).cast(), ROOM, &raw mut STATES[0].0,
+                    (&raw mut ENDS.slots).cast(), ROOM, &raw mut STATES[1].0,
                 )
             };
             assert!(word >> 60 == 0, "the record at byte {at} was refused with {}", word >> 60);
-            let (starts, ends) = unsafe { (&(&*(&raw const STARTS)).slots[..LENS[0].0], &(&*(&raw const ENDS)).slots[..LENS[1].0]) };
+            let [starts_len, ends_len] = unsafe { [STATES[0].0[0] as usize, STATES[1].0[0] as usize] };
+            let (starts, ends) = unsafe { (&(&*(&raw const STARTS)).slots[..starts_len], &(&*(&raw const ENDS)).slots[..ends_len]) };
             each(window, starts, ends);
             at += word as u32 as usize;
         }

@@ -78,6 +78,11 @@ pub fn deque_step(it: &mut Iter<'_, u32>) -> Option<u32> {
 }
 
 #[inline(never)]
+pub fn deque_total(d: &VecDeque<u32>) -> u64 {
+    d.iter().map(|&x| x as u64).sum()
+}
+
+#[inline(never)]
 pub fn vec_push(v: &mut Vec<u32>, x: u32) {
     v.push(x)
 }
@@ -115,4 +120,15 @@ pub fn vec_truncate(v: &mut Vec<u32>, k: usize) {
 #[inline(never)]
 pub fn vec_extend(v: &mut Vec<u32>, s: &[u32]) {
     v.extend_from_slice(s)
+}
+
+#[inline(never)]
+pub fn vec_total(v: &Vec<u32>) -> u64 {
+    v.iter().map(|&x| x as u64).sum()
+}
+
+// A number where it stands: a total of ours, for which there is no call.
+#[inline(never)]
+pub fn number(at: &u64) -> u64 {
+    *at
 }

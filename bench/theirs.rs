@@ -115,6 +115,11 @@ impl<const C: usize, const WHICH: usize> work::Ring for Ring<C, WHICH> {
     fn step(self, u: &mut Iter<'static, u32>) -> Option<u32> {
         rust::deque_step(u)
     }
+
+    #[inline(always)]
+    fn total(self) -> u64 {
+        rust::deque_total(deque::<WHICH>())
+    }
 }
 
 impl<const C: usize> work::Pair for Rings<C> {
@@ -242,6 +247,11 @@ impl<const C: usize> work::Vector for Vector<C> {
     fn extend(self, s: &[u32]) -> u64 {
         rust::vec_extend(vec(), s);
         0
+    }
+
+    #[inline(always)]
+    fn total(self) -> u64 {
+        rust::vec_total(vec())
     }
 
     #[inline(always)]

@@ -22,7 +22,7 @@ impl Spots {
     }
 }
 
-// What comes of the calls: the entries that they gave, added up, and what was refused.
+// What comes of the calls: the entries or totals that they gave, added up, and what was refused.
 #[derive(Default, PartialEq, Debug)]
 pub struct Came {
     sum: u64,
@@ -58,6 +58,7 @@ pub trait Ring: Copy {
     type Cursor;
     fn begin(self) -> Self::Cursor;
     fn step(self, u: &mut Self::Cursor) -> Option<u32>;
+    fn total(self) -> u64;
 }
 
 // Two rings.
@@ -84,6 +85,7 @@ pub trait Vector: Copy {
     fn swap_remove(self, i: usize) -> Option<u32>;
     fn extend(self, s: &[u32]) -> u64;
     fn truncate(self, k: usize) -> u64;
+    fn total(self) -> u64;
     fn anew(self);
 }
 
@@ -186,6 +188,15 @@ pub fn ring_walk<R: Ring>(r: R, rounds: usize) -> Came {
     came
 }
 
+// What the entries add up to.
+pub fn ring_total<R: Ring>(r: R, rounds: usize) -> Came {
+    let mut came = Came::default();
+    for _ in 0..rounds {
+        came.sum += r.total();
+    }
+    came
+}
+
 // All entries go over and come back.
 pub fn pair_append<P: Pair>(p: P, rounds: usize) -> Came {
     let mut came = Came::default();
@@ -261,6 +272,14 @@ pub fn vector_extend_truncate<V: Vector>(v: V, n: usize, s: &[u32], rounds: usiz
     for _ in 0..rounds {
         came.did(v.extend(s));
         came.did(v.truncate(n));
+    }
+    came
+}
+
+pub fn vector_total<V: Vector>(v: V, rounds: usize) -> Came {
+    let mut came = Came::default();
+    for _ in 0..rounds {
+        came.sum += v.total();
     }
     came
 }

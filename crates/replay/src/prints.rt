@@ -1,5 +1,5 @@
-// What is printed of a call: its answer with both containers, the cursor, the slot that it reports and both totals in one line, then a line for each slot. What
-// would not fit into the text is left out, so that nothing is asked of a caller; `main` lends enough for the largest desk.
+// What is printed of a call: its answer with both containers, the cursor, the slot that it reports and both totals in one line, then a line for each slot.
+// What would not fit into the text is left out, so that nothing is asked of a caller; `main` lends enough for the largest desk.
 use crate::answers::Did;
 use crate::desks::Desk;
 

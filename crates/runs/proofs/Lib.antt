@@ -1,2 +1,3 @@
--- That each promise leaves one result.
+-- That each promise leaves one result, and that a total is told by its sum.
 pub mod Once
+pub mod Whole

@@ -10,7 +10,7 @@ ghost use Rattle.runs.specs.Width.{summing};
 ghost use Rattle.table.specs.Does.{headAfter};
 ghost use Rattle.ring.specs.Seen.{Meets, Makes, state, says, lit};
 
-// The state: the slot of position 0, how many entries there are, and what they add up to, if the first total was right.
+// The state: the slot of position 0, how many entries there are, and their total, which is what they add up to unless a wrong one was given.
 pub struct Ring {
     pub head: usize,
     pub len: usize,

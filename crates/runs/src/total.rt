@@ -12,7 +12,7 @@ pub struct Total {
     pub sum: u64,
 }
 
-// Of no entries.
+// The total of no entries.
 pub fn none() -> Total
     ensures { λ r. ⌜ r .sum ≡ 0 ⌝ }
 {
@@ -42,7 +42,7 @@ pub fn traded(total: Total, x: u32, old: u32) -> Total
     Total { sum }
 }
 
-// So many were, which add up to this.
+// Several were, and add up to `by`.
 pub fn more(total: Total, by: Total) -> Total
     ensures { λ r. ⌜ r .sum ≡ changed (total .sum) (by .sum) 0 ⌝ }
 {
@@ -57,7 +57,7 @@ pub fn less(total: Total, by: Total) -> Total
     Total { sum }
 }
 
-// So many times x.
+// What `count` entries x add up to.
 pub fn times(count: usize, x: u32) -> Total
     requires { ⌜ count ≤ most ⌝ }
     ensures { λ r. ⌜ r .sum ≡ count * x ⌝ }
@@ -66,7 +66,7 @@ pub fn times(count: usize, x: u32) -> Total
     Total { sum }
 }
 
-// All of a part. A plain loop, of which LLVM makes additions of several numbers at once.
+// What the numbers of a part add up to. A plain loop, of which LLVM makes additions of several numbers at once.
 fn added(part: &[u32]) -> u64
     requires { ⌜ length (now part) ≤ most ⌝ }
     ensures { λ r. ⌜ (r ≡ total (now (part .entry))) × (r ≤ 2 ^ 44) ⌝ }
@@ -89,7 +89,7 @@ pub fn part(part: &[u32]) -> Total
     Total { sum }
 }
 
-// Slots from .. to.
+// What slots from .. to add up to.
 pub fn run(slots: &[u32], from: usize, to: usize) -> Total
     requires { ⌜ (length (now slots) ≤ most) × (from ≤ to) × (to ≤ length (now slots)) ⌝ }
     ensures { λ r. ⌜ r .sum ≡ total (drop from (entries itself to (now (slots .entry)))) ⌝ }
@@ -98,7 +98,7 @@ pub fn run(slots: &[u32], from: usize, to: usize) -> Total
     Total { sum }
 }
 
-// A ring's positions from .. to: a run of slots, or one to the last slot and one from slot 0.
+// What a ring's positions from .. to add up to: a run of slots, or one to the last slot and one from slot 0.
 pub fn ring(slots: &[u32], head: usize, from: usize, to: usize) -> Total
     requires { ⌜ Reach (length (now slots)) head from to ⌝ }
     ensures { λ r. ⌜ r .sum ≡ total (drop from (entries (slotOf (length (now (slots .entry))) head) to (now (slots .entry)))) ⌝ }

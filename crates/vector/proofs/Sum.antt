@@ -1,7 +1,7 @@
 -- The total of an answer (request 04), from the promise of the call that gave it: it has changed by what the ledger says that the call entered, handed out and dropped; where it was the
 -- sum of the entries it is their sum; and a making starts it so.
 use Prim.Native.Nat.{ℕ, _^_, _<_}
-use mathlib.Core.Path.{_≡_, sym, _∙_}
+use mathlib.Core.Path.{_≡_, _∙_}
 use mathlib.Core.List.{List}
 use Rattle.slots.specs.Layout.{vector}
 use Rattle.slots.specs.Total.{total}

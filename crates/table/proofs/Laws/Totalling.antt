@@ -11,9 +11,9 @@ use Rattle.slots.proofs.Placing.{length-entries, entry}
 use Rattle.slots.proofs.Totals.{total-none, total-one, total-empty, total-append, total-split, total-replicate, same-change, no-change, all-put}
 use Rattle.table.specs.Tray.{Tray, list, Cursor}
 use Rattle.table.specs.Calls.{Call, resize, Call2, append, splitOff, clone, fromIter, Making, fromElem}
-use Rattle.table.specs.Table.{after2, remaining, begins}
+use Rattle.table.specs.Table.{after2, remaining}
 use Rattle.table.specs.Does.{Outcome, Outcome2, does, does2, made, bare}
-use Rattle.table.specs.Ledger.{Flow, none, enters, hands, drops, flow}
+use Rattle.table.specs.Ledger.{enters, hands, drops, flow}
 use Rattle.table.specs.Totals.{totalAfter, totalMade, totalFirst, totalSecond}
 use Rattle.table.proofs.Laws.Keeps.{bare-list}
 use Rattle.table.proofs.Theorems.Listed.{two-listed, made-listed}

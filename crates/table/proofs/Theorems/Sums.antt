@@ -2,20 +2,21 @@
 -- first list and the last tell.
 use Prim.Native.Nat.{ℕ, _+_, _*_, _%_, _^_, _≤_, _<_}
 use mathlib.Core.Path.{_≡_, refl, sym, ap, _∙_}
-use mathlib.Core.List.{List, [], _∷_, _++_}
+use mathlib.Core.List.{List, [], _∷_}
 use native.Mathlib.Omega.{arith}
-use lib.ListN.{length, getD, set, drop, length-set, List·getD-append}
+use lib.ListN.{length, set, drop, length-set, List·getD-append}
 use lib.Seq.{getD-set-same, getD-set-other, getD-at}
-use Rattle.slots.specs.Layout.{Kind}
+use Rattle.slots.specs.Layout.{Kind, place}
 use Rattle.slots.specs.Total.{total, changed, totalled}
-use Rattle.slots.proofs.Totals.{total-none, total-empty, total-append, total-split, same-change, no-change}
-use Rattle.table.specs.Tray.{Tray, list, Cursor}
+use Rattle.slots.proofs.Totals.{total-none, total-empty, same-change, no-change}
+use Rattle.table.specs.Tray.{Tray, cap, list, Cursor}
 use Rattle.table.specs.Calls.{Call, Making, Call2, append, splitOff, clone, fromIter}
 use Rattle.table.specs.Table.{remaining}
 use Rattle.table.specs.Does.{Outcome, Outcome2, does, does2, made}
 use Rattle.table.specs.Promise.{Promise, Promise2, Arrival}
 use Rattle.table.specs.World.{Container, World, at, Event, arrived, called, calledTwo, step, run, holds}
 use Rattle.table.specs.Totals.{totalAfter, totalMade, totalFirst, totalSecond}
+use Rattle.table.proofs.Laws.Totalling.{first-is, second-is, goes-over, splits, copies}
 use Rattle.table.proofs.Theorems.Listed.{two-listed}
 
 -- EXACTLY. So many entries of 32 bits add up to less than 2 to the 64th.
@@ -123,38 +124,25 @@ pub always-off : (w : World) (i n d : ℕ) (es : List Event) → n < 2 ^ 64 → 
 always-off w i n d es small =
     along-is w i _ es (omega arith) ∙ stays-off n d (holds (at w i)) (holds (at (run w es) i)) ∙ ap (λ m. (m + d) % 2 ^ 64) (sym (along-is w i n es small))
 
--- ON TWO CONTAINERS. What goes over leaves the one's total and comes to the other's: the entries, and not T's total.
+-- ON TWO CONTAINERS. What goes over leaves the one's total and comes to the other's: the entries, and not T's total. T is empty where it only gets some.
 module _ (k k2 : Kind) (t t2 : Tray) (o : Outcome2) (n n2 : ℕ) (zero : o .number ≡ 0) where
   pub appended : o ≡ does2 k k2 append t t2
       → (totalFirst k k2 append t t2 n ≡ changed n (total (list k2 t2)) 0) × (totalSecond k k2 append t t2 n2 ≡ changed n2 0 (total (list k2 t2)))
-  unfolding totalFirst totalSecond
   appended e =
-      let now = two-listed k k2 append t t2 o e zero in
-      let first = ap (λ (o : Outcome2). list k (o .first)) (sym e) ∙ now .first .listed in
-      let second = ap (λ (o : Outcome2). list k2 (o .second)) (sym e) ∙ now .second .listed in (
-        rw first (same-change n _ _ _ _ (omega (arith, total-append (list k t) (list k2 t2)))),
-        rw second (same-change n2 _ _ _ _ (omega (arith, total-none))),
-      )
+      let c = goes-over (list k t) (list k2 t2) n n2 _ _ refl refl in
+      (sym (first-is k k2 append t t2 o n n2 e _ _ zero c), sym (second-is k k2 append t t2 o n n2 e _ _ zero c))
 
-  pub split-off : (i : ℕ) → o ≡ does2 k k2 (splitOff i) t t2 → length (list k2 t2) ≡ 0
+  pub split-off : (i : ℕ) → o ≡ does2 k k2 (splitOff i) t t2 → t2 .len ≡ 0
       → (totalFirst k k2 (splitOff i) t t2 n ≡ changed n 0 (total (drop i (list k t)))) × (totalSecond k k2 (splitOff i) t t2 n2 ≡ changed n2 (total (drop i (list k t))) 0)
-  unfolding totalFirst totalSecond
   split-off i e empty =
-      let now = two-listed k k2 (splitOff i) t t2 o e zero in
-      let first = ap (λ (o : Outcome2). list k (o .first)) (sym e) ∙ now .first .listed in
-      let second = ap (λ (o : Outcome2). list k2 (o .second)) (sym e) ∙ now .second .listed in (
-        rw first (same-change n _ _ _ _ (omega (arith, total-split i (list k t)))),
-        rw second (same-change n2 _ _ _ _ (omega (arith, total-empty (list k2 t2) empty))),
-      )
+      let c = splits (list k t) (place k2 (cap t2) (t2 .head)) (t2 .len) i n n2 _ _ (t2 .slots) empty refl refl in
+      (sym (first-is k k2 (splitOff i) t t2 o n n2 e _ _ zero c), sym (second-is k k2 (splitOff i) t t2 o n n2 e _ _ zero c))
 
-  pub cloned : o ≡ does2 k k2 clone t t2 → length (list k2 t2) ≡ 0 → n < 2 ^ 64
+  pub cloned : o ≡ does2 k k2 clone t t2 → t2 .len ≡ 0 → n < 2 ^ 64
       → (totalFirst k k2 clone t t2 n ≡ n) × (totalSecond k k2 clone t t2 n2 ≡ changed n2 (total (list k t)) 0)
-  unfolding totalFirst totalSecond
   cloned e empty small =
-      let now = two-listed k k2 clone t t2 o e zero in
-      let first = ap (λ (o : Outcome2). list k (o .first)) (sym e) ∙ now .first .listed in
-      let second = ap (λ (o : Outcome2). list k2 (o .second)) (sym e) ∙ now .second .listed in
-      (rw first (sym (no-change n _ small)), rw second (same-change n2 _ _ _ _ (omega (arith, total-empty (list k2 t2) empty))))
+      let c = copies (list k t) (place k2 (cap t2) (t2 .head)) (t2 .len) _ n n2 _ (t2 .slots) small empty refl refl in
+      (sym (first-is k k2 clone t t2 o n n2 e _ _ zero c), sym (second-is k k2 clone t t2 o n n2 e _ _ zero c))
 
   pub taken : (u : Cursor) → o ≡ does2 k k2 (fromIter u) t t2 → length (list k2 t2) ≡ 0 → n < 2 ^ 64
       → (totalFirst k k2 (fromIter u) t t2 n ≡ n) × (totalSecond k k2 (fromIter u) t t2 n2 ≡ changed n2 (total (remaining u (list k t))) 0)

@@ -26,7 +26,7 @@ use Rattle.stored.proofs.ring_text.Reads as ring-text·reads
 use Rattle.stored.proofs.vector_text as vector-text·fn
 use Rattle.stored.proofs.vector_text.Reads as vector-text·reads
 
-as-it-was : (k : Kind) (t : Tray) (text : List ℕ) → writes k t text .outcome .tray ≡ t
+pub as-it-was : (k : Kind) (t : Tray) (text : List ℕ) → writes k t text .outcome .tray ≡ t
 unfolding writes
 as-it-was k t text =
     either (λ (w : Written). w .outcome .tray ≡ t) (λ m. refusing t m text) (refusalsText k t text) (telling t (size (cap t)) (put text 0 (form k t)))

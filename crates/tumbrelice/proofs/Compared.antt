@@ -1,6 +1,6 @@
 -- What is heard of a comparison is what is seen of it, every answer fits a word, and both containers are as they were, so a caller keeps the states that
 -- it gave.
-use mathlib.Core.Path.{_≡_, refl, ap, _∙_}
+use mathlib.Core.Path.{_≡_, refl, sym, ap, _∙_}
 use mathlib.Core.Bool.{false}
 use mathlib.Core.List.{List}
 use Prim.Native.Nat.{ℕ, _^_, _<_}
@@ -22,7 +22,8 @@ use Rattle.pairs.specs.Rings as rings
 use Rattle.pairs.specs.Vectors as vectors
 use Rattle.pairs.specs.Mixed as mixed
 use Rattle.tumbrelice.specs.Heard.{Worded, Held, Hears2, ringIn, vectorIn, ringTray, ringOf, vectorOf}
-use Rattle.tumbrelice.proofs.Words.{number-fits2, moves-fit2, none-fits, heard2-is, unmoved}
+use Rattle.tumbrelice.proofs.Words.{none-fits}
+use Rattle.tumbrelice.proofs.Twos.{number-fits2, moves-fit2, hears2, unmoved}
 
 -- a comparison leaves both
 first-still : (k k2 : Kind) (t t2 : Tray) → (invalid k t ≡ false → Homed k t) → does2 k k2 same t t2 .first ≡ t
@@ -43,49 +44,20 @@ second-still k k2 t t2 home2 =
 
 -- THE RULE: o is what was seen of the call, and b and b2 what the caller gave and keeps
 compared : (k k2 : Kind) (b b2 : Held) (o : Outcome2) (word : ℕ) → (invalid k (b .tray) ≡ false → Homed k (b .tray)) → (invalid k2 (b2 .tray) ≡ false → Homed k2 (b2 .tray))
-    → b .total < 2 ^ 64 → b2 .total < 2 ^ 64 → o .cursor ≡ nowhere → o ≡ does2 k k2 same (b .tray) (b2 .tray) → Worded (o .number) (o .value) (o .moves) noSlot word
+    → b .total < 2 ^ 64 → b2 .total < 2 ^ 64 → nowhere ≡ o .cursor → o ≡ does2 k k2 same (b .tray) (b2 .tray) → Worded (o .number) (o .value) (o .moves) noSlot word
     → Hears2 k k2 same b b2 word b b2
 compared k k2 b b2 o word home home2 small small2 none e w =
-    let t : Tray = b .tray in
-    let t2 : Tray = b2 .tray in
-    let still = first-still k k2 t t2 home in
-    let still2 = second-still k k2 t t2 home2 in
-    let first : o .first ≡ t = ap (λ (o : Outcome2). o .first) e ∙ still in
-    let second : o .second ≡ t2 = ap (λ (o : Outcome2). o .second) e ∙ still2 in
-    let whole : o ≡ record { number = o .number; value = o .value; moves = o .moves; first = o .first; second = o .second; cursor = o .cursor } = refl in
-    record {
-      row = heard2-is (o .number) (o .value) (o .moves) noSlot word t t2 _ w (cc);
-      slot = w .slot;
-      total = first-same k k2 same t t2 _ (b .total) (b2 .total) refl still small;
-      total2 = second-same k k2 same t t2 _ (b .total) (b2 .total) refl still2 small2;
-    }
+    let still = first-still k k2 (b .tray) (b2 .tray) home in
+    let still2 = second-still k k2 (b .tray) (b2 .tray) home2 in
+    hears2 k k2 same b b2 b b2 o word none e w (sym (ap (λ (o : Outcome2). o .first) e ∙ still)) (sym (ap (λ (o : Outcome2). o .second) e ∙ still2))
+    (first-same k k2 same (b .tray) (b2 .tray) _ (b .total) (b2 .total) refl still small) (second-same k k2 same (b .tray) (b2 .tray) _ (b .total) (b2 .total) refl still2 small2)
 
 -- and for each pair of kinds, with the states as numbers
-module _ (r t : Ring) (s z : List ℕ) (a : of-rings.Both) (e : rings.Meets same r s t z a s z) where
-  pub rings-number : a .number < 16
-  rings-number = number-fits2 ring ring same _ _ _ (e .row)
-
-  pub rings-moves : a .moves < 4096
-  rings-moves = moves-fit2 ring ring same _ _ _ (e .row)
-
-  pub rings-slot : a .slot < 65536
-  rings-slot = none-fits (a .slot) (e .slot)
-
 pub rings-compared : (st ot s z : List ℕ) (r t : Ring) (a : of-rings.Both) (word : ℕ) → r ≡ ringIn st → t ≡ ringIn ot → r .total .sum < 2 ^ 64 → t .total .sum < 2 ^ 64 → rings.Meets same r s t z a s z
     → Worded (a .number) (a .value) (a .moves) (a .slot) word → Hears2 ring ring same (ringOf st s) (ringOf ot z) word (ringOf st s) (ringOf ot z)
 rings-compared st ot s z r t a word er et small small2 e w =
     let e′ : rings.Meets same (ringIn st) s (ringIn ot) z a s z = rw (er, et) at e in
     compared ring ring (ringOf st s) (ringOf ot z) (rings.seen2 a s z) word (homed (ringTray st s)) (homed (ringTray ot z)) (rw er at small) (rw et at small2) refl (e′ .row) (rw (e′ .slot) at w)
-
-module _ (v t : Vector) (s z : List ℕ) (a : of-vectors.Both) (e : vectors.Meets same v s t z a s z) where
-  pub vectors-number : a .number < 16
-  vectors-number = number-fits2 vector vector same _ _ _ (e .row)
-
-  pub vectors-moves : a .moves < 4096
-  vectors-moves = moves-fit2 vector vector same _ _ _ (e .row)
-
-  pub vectors-slot : a .slot < 65536
-  vectors-slot = none-fits (a .slot) (e .slot)
 
 pub vectors-compared : (n m s z : List ℕ) (v t : Vector) (a : of-vectors.Both) (word : ℕ) → v ≡ vectorIn n → t ≡ vectorIn m → v .total .sum < 2 ^ 64 → t .total .sum < 2 ^ 64 → vectors.Meets same v s t z a s z
     → Worded (a .number) (a .value) (a .moves) (a .slot) word → Hears2 vector vector same (vectorOf n s) (vectorOf m z) word (vectorOf n s) (vectorOf m z)
@@ -110,4 +82,4 @@ mixed-compared st m s z r t a word er et small small2 e w =
     let e′ : mixed.Meets same (ringIn st) s (vectorIn m) z a s z = rw (er, et) at e in
     compared ring vector (ringOf st s) (vectorOf m z) (mixed.seen2 a s z) word (homed (ringTray st s)) (λ ok. refl) (rw er at small) (rw et at small2) refl (e′ .row) (rw (e′ .slot) at w)
 
-pub ruleset fits = (rings-number, rings-moves, rings-slot, vectors-number, vectors-moves, vectors-slot, mixed-number, mixed-moves, mixed-slot)
+pub ruleset mixed-fit = (mixed-number, mixed-moves, mixed-slot)

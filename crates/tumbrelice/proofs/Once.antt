@@ -1,5 +1,5 @@
 -- One answer: any two words that meet an exported call's generated contract on the same arguments are the same, and so are the numbers of the
--- state and the contents of the slots that they come with.
+-- state and the contents of the slots that they come with. Here the calls on one container.
 use Prim.Native.Nat.{ℕ}
 use native.Mathlib.Omega.{arith}
 use mathlib.Core.Path.{_≡_, sym, ap, ap₂, _∙_}
@@ -8,62 +8,76 @@ use contract.Lifetimes.{Lfts}
 use denote.Ref.{now}
 use Rattle.slots.specs.Layout.{Kind}
 use Rattle.slots.proofs.Twice.{Twice}
-use Rattle.table.specs.Tray.{Cursor}
-use Rattle.table.specs.Calls.{Call, Call2, Look}
-use Rattle.table.specs.Does.{Outcome2}
-use Rattle.record.specs.declared.texts.Told.{Told}
-use Rattle.record.specs.Unquoted.{Unquoted}
-use Rattle.tumbrelice.specs.Heard.{valueIn, slotIn, movesIn, numberIn, heard2, Held, Hears, HearsAt, Hears2, ringOf, vectorOf, cursorOf}
-use Rattle.tumbrelice.specs.HeardText.{HearsRecord, heardTold}
+use Rattle.table.specs.Calls.{Call, Making}
+use Rattle.table.specs.Does.{Outcome}
+use Rattle.runs.specs.Width.{summing}
+use Rattle.ring.specs.declared.Ring.{Ring}
+use Rattle.ring.specs.Seen as seen-rings
+use Rattle.vector.specs.declared.Vector.{Vector}
+use Rattle.vector.specs.Seen as seen-vectors
+use Rattle.tumbrelice.specs.Heard.{valueIn, slotIn, movesIn, numberIn, heard, Held, Hears, HearsMade, ringIn, vectorIn, ringOf, vectorOf}
+use Rattle.tumbrelice.proofs.makings as makings
 use Rattle.tumbrelice.proofs.rings as rings
 use Rattle.tumbrelice.proofs.vectors as vectors
-use Rattle.tumbrelice.proofs.two as two
-use Rattle.tumbrelice.proofs.compare as compare
-use Rattle.tumbrelice.proofs.records as records
-use Rattle.tumbrelice.proofs.walks as walks
 
 -- the four numbers of a word make it up
-one-word : (w w′ : ℕ) → numberIn w ≡ numberIn w′ → valueIn w ≡ valueIn w′ → movesIn w ≡ movesIn w′ → slotIn w ≡ slotIn w′ → w ≡ w′
+pub one-word : (w w′ : ℕ) → numberIn w ≡ numberIn w′ → valueIn w ≡ valueIn w′ → movesIn w ≡ movesIn w′ → slotIn w ≡ slotIn w′ → w ≡ w′
 one-word w w′ number value moves slot = omega arith
 
 -- a container is told by its tray and its total
-one-held : {b b′ : Held} → b .tray ≡ b′ .tray → b .total ≡ b′ .total → b ≡ b′
+pub one-held : {b b′ : Held} → b .tray ≡ b′ .tray → b .total ≡ b′ .total → b ≡ b′
 one-held tray total = ap₂ (λ t n. record { tray = t; total = n }) tray total
 
-one : {k : Kind} {call : Call} {b : Held} (w w′ : ℕ) (t t′ : Held) → Hears k call b w t → Hears k call b w′ t′ → (w ≡ w′) × (t ≡ t′)
-one w w′ t t′ p q =
-    let same = p .row ∙ sym (q .row) in (
-      one-word w w′ (ap (λ o. o .number) same) (ap (λ o. o .value) same) (ap (λ o. o .moves) same) (p .slot ∙ sym (q .slot)),
-      one-held (ap (λ o. o .tray) same) (p .total ∙ sym (q .total)),
-    )
-
-one-at : {k : Kind} {s : Look} {b : Held} (w w′ : ℕ) (u u′ : Cursor) → HearsAt k s b w u → HearsAt k s b w′ u′ → (w ≡ w′) × (u ≡ u′)
-one-at w w′ u u′ p q =
-    let same = p .row ∙ sym (q .row) in
-    (one-word w w′ (ap (λ o. o .number) same) (ap (λ o. o .value) same) (ap (λ o. o .moves) same) (p .slot ∙ sym (q .slot)), ap (λ o. o .cursor) same)
-
--- of a call on two, and of a record: o is its outcome, n and m are the totals
-one-two : (o : Outcome2) (n m : ℕ) (w w′ : ℕ) (t t′ t2 t2′ : Held) → heard2 w (t .tray) (t2 .tray) ≡ o → heard2 w′ (t′ .tray) (t2′ .tray) ≡ o → slotIn w ≡ slotIn w′
-    → t .total ≡ n → t′ .total ≡ n → t2 .total ≡ m → t2′ .total ≡ m → (w ≡ w′) × (t ≡ t′) × (t2 ≡ t2′)
-one-two o n m w w′ t t′ t2 t2′ p q slot first first′ second second′ =
+-- of a call, and of a making: o is its outcome, m the slot and n the total
+one-of : (o : Outcome) (m n : ℕ) (w w′ : ℕ) (t t′ : Held) → heard w (t .tray) ≡ o → heard w′ (t′ .tray) ≡ o → slotIn w ≡ m → slotIn w′ ≡ m → t .total ≡ n → t′ .total ≡ n → (w ≡ w′) × (t ≡ t′)
+one-of o m n w w′ t t′ p q slot slot′ total total′ =
     let same = p ∙ sym q in (
-      one-word w w′ (ap (λ o. o .number) same) (ap (λ o. o .value) same) (ap (λ o. o .moves) same) slot,
-      one-held (ap (λ o. o .first) same) (first ∙ sym first′),
-      one-held (ap (λ o. o .second) same) (second ∙ sym second′),
+      one-word w w′ (ap (λ (o : Outcome). o .number) same) (ap (λ (o : Outcome). o .value) same) (ap (λ (o : Outcome). o .moves) same) (slot ∙ sym slot′),
+      one-held (ap (λ (o : Outcome). o .tray) same) (total ∙ sym total′),
     )
 
-one2 : {k k2 : Kind} {call : Call2} {b b2 : Held} (w w′ : ℕ) (t t′ t2 t2′ : Held) → Hears2 k k2 call b b2 w t t2 → Hears2 k k2 call b b2 w′ t′ t2′
-    → (w ≡ w′) × (t ≡ t′) × (t2 ≡ t2′)
-one2 w w′ t t′ t2 t2′ p q = one-two _ _ _ w w′ t t′ t2 t2′ (p .row) (q .row) (p .slot ∙ sym (q .slot)) (p .total) (q .total) (p .total2) (q .total2)
+one : {k : Kind} {call : Call} {b : Held} (w w′ : ℕ) (t t′ : Held) → Hears k call b w t → Hears k call b w′ t′ → (w ≡ w′) × (t ≡ t′)
+one w w′ t t′ p q = one-of _ _ _ w w′ t t′ (p .row) (q .row) (p .slot) (q .slot) (p .total) (q .total)
 
-one-record : {text : List ℕ} {b b2 : Held} (w w′ : ℕ) (t t′ t2 t2′ : Held) → HearsRecord text b b2 w t t2 → HearsRecord text b b2 w′ t′ t2′ → (w ≡ w′) × (t ≡ t′) × (t2 ≡ t2′)
-one-record w w′ t t′ t2 t2′ p q = one-two _ _ _ w w′ t t′ t2 t2′ (p .row) (q .row) (p .slot ∙ sym (q .slot)) (p .total) (q .total) (p .total2) (q .total2)
+one-made : {k : Kind} {m : Making} {s : List ℕ} (w w′ : ℕ) (t t′ : Held) → HearsMade k m s w t → HearsMade k m s w′ t′ → (w ≡ w′) × (t ≡ t′)
+one-made w w′ t t′ p q = one-of _ _ _ w w′ t t′ (p .row) (q .row) (p .slot) (q .slot) (p .total) (q .total)
 
-one-told : (w w′ : ℕ) → heardTold w ≡ heardTold w′ → movesIn w ≡ 0 → movesIn w′ ≡ 0 → slotIn w ≡ slotIn w′ → w ≡ w′
-one-told w w′ same m m′ slot = one-word w w′ (ap (λ (a : Told). a .number) same) (ap (λ (a : Told). a .value) same) (m ∙ sym m′) slot
+-- a state's numbers, as they go in, are told by the container
+abbrev ringBack : Held → Ring
+ringBack b = seen-rings.state (b .tray .head) (b .tray .len) (summing (b .total))
+
+abbrev vectorBack : Held → Vector
+vectorBack b = seen-vectors.state (b .tray .len) (summing (b .total))
 
 -- In what follows a are the arguments, r and r′ are words, and e and e′ the arguments as they are at the return.
 module _ (κs : Lfts 2) where
+  pub tum-ring-new-once : Twice makings.tum_ring_new.ended κs (makings.tum_ring_new.Reads.Learnt κs) (λ r e r′ e′. (r ≡ r′) × (ringIn (now (e .1 .0)) ≡ ringIn (now (e′ .1 .0))))
+  tum-ring-new-once a r r′ e e′ p q = let all = one-made r r′ _ _ p q in (all .0, ap ringBack (all .1))
+
+  pub tum-ring-with-capacity-once : Twice makings.tum_ring_with_capacity.ended κs (makings.tum_ring_with_capacity.Reads.Learnt κs) (λ r e r′ e′. (r ≡ r′) × (ringIn (now (e .1 .0)) ≡ ringIn (now (e′ .1 .0))))
+  tum-ring-with-capacity-once a r r′ e e′ p q = let all = one-made r r′ _ _ p q in (all .0, ap ringBack (all .1))
+
+  pub tum-vector-new-once : Twice makings.tum_vector_new.ended κs (makings.tum_vector_new.Reads.Learnt κs) (λ r e r′ e′. (r ≡ r′) × (vectorIn (now (e .1 .0)) ≡ vectorIn (now (e′ .1 .0))))
+  tum-vector-new-once a r r′ e e′ p q = let all = one-made r r′ _ _ p q in (all .0, ap vectorBack (all .1))
+
+  pub tum-vector-with-capacity-once : Twice makings.tum_vector_with_capacity.ended κs (makings.tum_vector_with_capacity.Reads.Learnt κs) (λ r e r′ e′. (r ≡ r′) × (vectorIn (now (e .1 .0)) ≡ vectorIn (now (e′ .1 .0))))
+  tum-vector-with-capacity-once a r r′ e e′ p q = let all = one-made r r′ _ _ p q in (all .0, ap vectorBack (all .1))
+
+  pub tum-vector-from-elem-once : Twice makings.tum_vector_from_elem.ended κs (makings.tum_vector_from_elem.Reads.Learnt κs) (λ r e r′ e′. (r ≡ r′) × (vectorOf (now (e .1 .0)) (now (e .0)) ≡ vectorOf (now (e′ .1 .0)) (now (e′ .0))))
+  tum-vector-from-elem-once a r r′ e e′ p q = one-made r r′ _ _ p q
+
+  pub tum-ring-len-once : Twice rings.tum_ring_len.ended κs (rings.tum_ring_len.Reads.Learnt κs) (λ r e r′ e′. r ≡ r′)
+  tum-ring-len-once a r r′ e e′ p q = one r r′ _ _ p q .0
+
+  pub tum-ring-read-once : Twice rings.tum_ring_read.ended κs (rings.tum_ring_read.Reads.Learnt κs) (λ r e r′ e′. r ≡ r′)
+  tum-ring-read-once a r r′ e e′ p q = one r r′ _ _ p q .0
+
+  pub tum-ring-reserve-once : Twice rings.tum_ring_reserve.ended κs (rings.tum_ring_reserve.Reads.Learnt κs) (λ r e r′ e′. r ≡ r′)
+  tum-ring-reserve-once a r r′ e e′ p q = one r r′ _ _ p q .0
+
+  pub tum-ring-write-once : Twice rings.tum_ring_write.ended κs (rings.tum_ring_write.Reads.Learnt κs) (λ r e r′ e′. (r ≡ r′) × (ringOf (now (e .1 .0)) (now (e .0)) ≡ ringOf (now (e′ .1 .0)) (now (e′ .0))))
+  tum-ring-write-once a r r′ e e′ p q = one r r′ _ _ p q
+
   pub tum-ring-push-back-once : Twice rings.tum_ring_push_back.ended κs (rings.tum_ring_push_back.Reads.Learnt κs) (λ r e r′ e′. (r ≡ r′) × (ringOf (now (e .1 .0)) (now (e .0)) ≡ ringOf (now (e′ .1 .0)) (now (e′ .0))))
   tum-ring-push-back-once a r r′ e e′ p q = one r r′ _ _ p q
 
@@ -82,14 +96,38 @@ module _ (κs : Lfts 2) where
   pub tum-ring-remove-once : Twice rings.tum_ring_remove.ended κs (rings.tum_ring_remove.Reads.Learnt κs) (λ r e r′ e′. (r ≡ r′) × (ringOf (now (e .1 .0)) (now (e .0)) ≡ ringOf (now (e′ .1 .0)) (now (e′ .0))))
   tum-ring-remove-once a r r′ e e′ p q = one r r′ _ _ p q
 
+  pub tum-ring-truncate-once : Twice rings.tum_ring_truncate.ended κs (rings.tum_ring_truncate.Reads.Learnt κs) (λ r e r′ e′. (r ≡ r′) × (ringOf (now (e .1 .0)) (now (e .0)) ≡ ringOf (now (e′ .1 .0)) (now (e′ .0))))
+  tum-ring-truncate-once a r r′ e e′ p q = one r r′ _ _ p q
+
   pub tum-ring-resize-once : Twice rings.tum_ring_resize.ended κs (rings.tum_ring_resize.Reads.Learnt κs) (λ r e r′ e′. (r ≡ r′) × (ringOf (now (e .1 .0)) (now (e .0)) ≡ ringOf (now (e′ .1 .0)) (now (e′ .0))))
   tum-ring-resize-once a r r′ e e′ p q = one r r′ _ _ p q
 
   pub tum-ring-clear-once : Twice rings.tum_ring_clear.ended κs (rings.tum_ring_clear.Reads.Learnt κs) (λ r e r′ e′. (r ≡ r′) × (ringOf (now (e .1 .0)) (now (e .0)) ≡ ringOf (now (e′ .1 .0)) (now (e′ .0))))
   tum-ring-clear-once a r r′ e e′ p q = one r r′ _ _ p q
 
-  pub tum-ring-read-once : Twice rings.tum_ring_read.ended κs (rings.tum_ring_read.Reads.Learnt κs) (λ r e r′ e′. r ≡ r′)
-  tum-ring-read-once a r r′ e e′ p q = one r r′ _ _ p q .0
+  pub tum-vector-len-once : Twice vectors.tum_vector_len.ended κs (vectors.tum_vector_len.Reads.Learnt κs) (λ r e r′ e′. r ≡ r′)
+  tum-vector-len-once a r r′ e e′ p q = one r r′ _ _ p q .0
+
+  pub tum-vector-is-empty-once : Twice vectors.tum_vector_is_empty.ended κs (vectors.tum_vector_is_empty.Reads.Learnt κs) (λ r e r′ e′. r ≡ r′)
+  tum-vector-is-empty-once a r r′ e e′ p q = one r r′ _ _ p q .0
+
+  pub tum-vector-read-once : Twice vectors.tum_vector_read.ended κs (vectors.tum_vector_read.Reads.Learnt κs) (λ r e r′ e′. r ≡ r′)
+  tum-vector-read-once a r r′ e e′ p q = one r r′ _ _ p q .0
+
+  pub tum-vector-reserve-once : Twice vectors.tum_vector_reserve.ended κs (vectors.tum_vector_reserve.Reads.Learnt κs) (λ r e r′ e′. r ≡ r′)
+  tum-vector-reserve-once a r r′ e e′ p q = one r r′ _ _ p q .0
+
+  pub tum-vector-try-reserve-once : Twice vectors.tum_vector_try_reserve.ended κs (vectors.tum_vector_try_reserve.Reads.Learnt κs) (λ r e r′ e′. r ≡ r′)
+  tum-vector-try-reserve-once a r r′ e e′ p q = one r r′ _ _ p q .0
+
+  pub tum-vector-try-reserve-exact-once : Twice vectors.tum_vector_try_reserve_exact.ended κs (vectors.tum_vector_try_reserve_exact.Reads.Learnt κs) (λ r e r′ e′. r ≡ r′)
+  tum-vector-try-reserve-exact-once a r r′ e e′ p q = one r r′ _ _ p q .0
+
+  pub tum-vector-ask-range-once : Twice vectors.tum_vector_ask_range.ended κs (vectors.tum_vector_ask_range.Reads.Learnt κs) (λ r e r′ e′. r ≡ r′)
+  tum-vector-ask-range-once a r r′ e e′ p q = one r r′ _ _ p q .0
+
+  pub tum-vector-write-once : Twice vectors.tum_vector_write.ended κs (vectors.tum_vector_write.Reads.Learnt κs) (λ r e r′ e′. (r ≡ r′) × (vectorOf (now (e .1 .0)) (now (e .0)) ≡ vectorOf (now (e′ .1 .0)) (now (e′ .0))))
+  tum-vector-write-once a r r′ e e′ p q = one r r′ _ _ p q
 
   pub tum-vector-push-once : Twice vectors.tum_vector_push.ended κs (vectors.tum_vector_push.Reads.Learnt κs) (λ r e r′ e′. (r ≡ r′) × (vectorOf (now (e .1 .0)) (now (e .0)) ≡ vectorOf (now (e′ .1 .0)) (now (e′ .0))))
   tum-vector-push-once a r r′ e e′ p q = one r r′ _ _ p q
@@ -109,42 +147,12 @@ module _ (κs : Lfts 2) where
   pub tum-vector-truncate-once : Twice vectors.tum_vector_truncate.ended κs (vectors.tum_vector_truncate.Reads.Learnt κs) (λ r e r′ e′. (r ≡ r′) × (vectorOf (now (e .1 .0)) (now (e .0)) ≡ vectorOf (now (e′ .1 .0)) (now (e′ .0))))
   tum-vector-truncate-once a r r′ e e′ p q = one r r′ _ _ p q
 
-  pub tum-vector-read-once : Twice vectors.tum_vector_read.ended κs (vectors.tum_vector_read.Reads.Learnt κs) (λ r e r′ e′. r ≡ r′)
-  tum-vector-read-once a r r′ e e′ p q = one r r′ _ _ p q .0
+  pub tum-vector-resize-once : Twice vectors.tum_vector_resize.ended κs (vectors.tum_vector_resize.Reads.Learnt κs) (λ r e r′ e′. (r ≡ r′) × (vectorOf (now (e .1 .0)) (now (e .0)) ≡ vectorOf (now (e′ .1 .0)) (now (e′ .0))))
+  tum-vector-resize-once a r r′ e e′ p q = one r r′ _ _ p q
+
+  pub tum-vector-clear-once : Twice vectors.tum_vector_clear.ended κs (vectors.tum_vector_clear.Reads.Learnt κs) (λ r e r′ e′. (r ≡ r′) × (vectorOf (now (e .1 .0)) (now (e .0)) ≡ vectorOf (now (e′ .1 .0)) (now (e′ .0))))
+  tum-vector-clear-once a r r′ e e′ p q = one r r′ _ _ p q
 
 module _ (κs : Lfts 3) where
   pub tum-vector-extend-from-slice-once : Twice vectors.tum_vector_extend_from_slice.ended κs (vectors.tum_vector_extend_from_slice.Reads.Learnt κs) (λ r e r′ e′. (r ≡ r′) × (vectorOf (now (e .1 .0)) (now (e .0)) ≡ vectorOf (now (e′ .1 .0)) (now (e′ .0))))
   tum-vector-extend-from-slice-once a r r′ e e′ p q = one r r′ _ _ p q
-
-  pub tum-ring-step-front-once : Twice walks.tum_ring_step_front.ended κs (walks.tum_ring_step_front.Reads.Learnt κs) (λ r e r′ e′. (r ≡ r′) × (cursorOf (now (e .1 .1 .0)) ≡ cursorOf (now (e′ .1 .1 .0))))
-  tum-ring-step-front-once a r r′ e e′ p q = one-at r r′ _ _ p q
-
-module _ (κs : Lfts 4) where
-  pub tum-ring-append-once : Twice two.tum_ring_append.ended κs (two.tum_ring_append.Reads.Learnt κs) (λ r e r′ e′. (r ≡ r′) × (ringOf (now (e .1 .0)) (now (e .0)) ≡ ringOf (now (e′ .1 .0)) (now (e′ .0))) × (ringOf (now (e .1 .1 .1 .0)) (now (e .1 .1 .0)) ≡ ringOf (now (e′ .1 .1 .1 .0)) (now (e′ .1 .1 .0))))
-  tum-ring-append-once a r r′ e e′ p q = one2 r r′ _ _ _ _ p q
-
-  pub tum-ring-clone-once : Twice two.tum_ring_clone.ended κs (two.tum_ring_clone.Reads.Learnt κs) (λ r e r′ e′. (r ≡ r′) × (ringOf (now (e .1 .1 .1 .0)) (now (e .1 .1 .0)) ≡ ringOf (now (e′ .1 .1 .1 .0)) (now (e′ .1 .1 .0))))
-  tum-ring-clone-once a r r′ e e′ p q = let all = one2 r r′ _ _ _ _ p q in (all .0, all .2)
-
-  pub tum-ring-same-once : Twice compare.tum_ring_same.ended κs (compare.tum_ring_same.Reads.Learnt κs) (λ r e r′ e′. r ≡ r′)
-  tum-ring-same-once a r r′ e e′ p q = one2 r r′ _ _ _ _ p q .0
-
-  pub tum-vector-equal-once : Twice compare.tum_vector_equal.ended κs (compare.tum_vector_equal.Reads.Learnt κs) (λ r e r′ e′. r ≡ r′)
-  tum-vector-equal-once a r r′ e e′ p q = one2 r r′ _ _ _ _ p q .0
-
-  pub tum-ring-same-as-vector-once : Twice compare.tum_ring_same_as_vector.ended κs (compare.tum_ring_same_as_vector.Reads.Learnt κs) (λ r e r′ e′. r ≡ r′)
-  tum-ring-same-as-vector-once a r r′ e e′ p q = one2 r r′ _ _ _ _ p q .0
-
-module _ (κs : Lfts 5) where
-  pub tum-record-read-once : Twice records.tum_record_read.ended κs (records.tum_record_read.Reads.Learnt κs) (λ r e r′ e′. (r ≡ r′) × (vectorOf (now (e .1 .1 .0)) (now (e .1 .0)) ≡ vectorOf (now (e′ .1 .1 .0)) (now (e′ .1 .0))) × (vectorOf (now (e .1 .1 .1 .1 .0)) (now (e .1 .1 .1 .0)) ≡ vectorOf (now (e′ .1 .1 .1 .1 .0)) (now (e′ .1 .1 .1 .0))))
-  tum-record-read-once a r r′ e e′ p q = one-record r r′ _ _ _ _ p q
-
-module _ (κs : Lfts 1) where
-  pub tum-record-judge-once : Twice records.tum_record_judge.ended κs (records.tum_record_judge.Reads.Learnt κs) (λ r e r′ e′. r ≡ r′)
-  tum-record-judge-once a r r′ e e′ p q = one-told r r′ (p .row ∙ sym (q .row)) (p .still) (q .still) (p .slot ∙ sym (q .slot))
-
-module _ (κs : Lfts 2) where
-  pub tum-record-text-once : Twice records.tum_record_text.ended κs (records.tum_record_text.Reads.Learnt κs) (λ r e r′ e′. (r ≡ r′) × (now (e .1 .1 .1 .0) ≡ now (e′ .1 .1 .1 .0)))
-  tum-record-text-once a r r′ e e′ p q =
-      let same = p .row ∙ sym (q .row) in
-      (one-told r r′ (ap (λ (u : Unquoted). u .answer) same) (p .still) (q .still) (p .slot ∙ sym (q .slot)), ap (λ (u : Unquoted). u .out) same)

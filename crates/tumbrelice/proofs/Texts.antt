@@ -1,20 +1,37 @@
--- What is heard of the calls on a record is what is seen of them, and every answer fits a word.
-use mathlib.Core.Path.{_≡_, refl, ap, _∙_}
+-- What is heard of the calls on a text, the stored form or a record, is what is seen of them, and every answer fits a word.
+use mathlib.Core.Path.{_≡_, refl, sym, ap, _∙_}
 use mathlib.Core.List.{List}
-use Prim.Native.Nat.{ℕ, _<_}
+use Prim.Native.Nat.{ℕ, suc, _^_, _<_}
 use native.Mathlib.Omega.{arith}
-use Rattle.table.specs.Does.{Outcome2}
+use Rattle.slots.specs.Layout.{Kind, ring, vector}
+use Rattle.slots.proofs.Totals.{no-change}
+use Rattle.table.specs.Tray.{Tray, cap, nowhere}
+use Rattle.table.specs.Does.{Outcome, Outcome2, refused2}
 use Rattle.table.specs.Reported.{noSlot}
+use Rattle.table.proofs.Laws.Refusals.{either, below-16}
+use Rattle.ring.specs.declared.Ring.{Ring}
+use Rattle.ring.specs.declared.Answer as ringAnswer
+use Rattle.ring.specs.Seen as rings
 use Rattle.vector.specs.declared.Vector.{Vector}
+use Rattle.vector.specs.declared.Answer as vectorAnswer
 use Rattle.vector.specs.Seen as vectors
 use Rattle.pairs.specs.declared.vectors.Both.{Both}
+use Rattle.pairs.specs.Vectors.{seen2}
+use Rattle.digits.specs.Put.{put}
+use Rattle.stored.specs.Form.{form, size}
+use Rattle.stored.specs.Written.{Written, refusalsText, writes}
+use Rattle.stored.specs.Seen.{seenRing, seenVector, RingStored, VectorStored}
+use Rattle.stored.proofs.Writes.{refusing, telling}
+use Rattle.stored.proofs.Ours.{as-it-was}
 use Rattle.record.specs.declared.texts.Told.{Told}
-use Rattle.record.specs.Recorded.{judges, Records}
+use Rattle.record.specs.Recorded.{judges, records, totalStarts, totalEnds, Records}
 use Rattle.record.specs.Unquoted.{Unquoted, unquoted, Unquotes}
 use Rattle.record.proofs.Theorems.Small.{few-numbers, no-moves, judged-few, unquoted-few}
-use Rattle.tumbrelice.specs.Heard.{Worded, vectorIn, vectorOut, vectorOf}
-use Rattle.tumbrelice.specs.HeardText.{HearsRecord, heardTold, HearsTold, HearsUndone}
-use Rattle.tumbrelice.proofs.Words.{none-fits, heard2-is}
+use Rattle.record.proofs.Theorems.Numbers.{records-refused}
+use Rattle.tumbrelice.specs.Heard.{Worded, Held, ringIn, vectorIn, vectorOut, unlessRefused, ringOf, vectorOf}
+use Rattle.tumbrelice.specs.HeardText.{HearsStored, HearsRecord, heardTold, HearsTold, HearsUndone}
+use Rattle.tumbrelice.proofs.Words.{none-fits, heard-at, vector-comes-out}
+use Rattle.tumbrelice.proofs.Twos.{heard2-is}
 
 module _ (text : List ℕ) (v t : Vector) (s z s′ z′ : List ℕ) (a : Both) (e : Records text v s t z a s′ z′) where
   pub record-number-fits : a .number < 16
@@ -28,17 +45,97 @@ module _ (text : List ℕ) (v t : Vector) (s z s′ z′ : List ℕ) (a : Both) 
 
 pub ruleset record-fits = (record-number-fits, record-moves-fit, record-slot-fits)
 
-pub record-hears : (text n m n′ m′ s z s′ z′ : List ℕ) (v t : Vector) (a : Both) (word : ℕ) → v ≡ vectorIn n → t ≡ vectorIn m
-    → Records text v s t z a s′ z′ → n′ ≡ vectorOut (a .first) → m′ ≡ vectorOut (a .second) → Worded (a .number) (a .value) (a .moves) (a .slot) word
-    → HearsRecord text (vectorOf n s) (vectorOf m z) word (vectorOf n′ s′) (vectorOf m′ z′)
-record-hears text n m n′ m′ s z s′ z′ v t a word ev et e en em w =
+-- what a refused record leaves, of each vector: the tray, and the total n′ that it answers where n was given
+module _ (text : List ℕ) (t t2 : Tray) (o : Outcome2) (n n′ : ℕ) (e : o ≡ records text t t2) (small : n < 2 ^ 64) (j : ℕ) (refuses : o .number ≡ suc j) where
+  refused : o ≡ refused2 t t2 nowhere (records text t t2 .number)
+  refused = e ∙ records-refused text t t2 (λ zero. omega (arith, zero, refuses, ap (λ (o : Outcome2). o .number) e))
+
+  starts-left : n′ ≡ totalStarts text t t2 n → (o .first ≡ t) × (n′ ≡ n)
+  unfolding totalStarts
+  starts-left total =
+      let same : o .first ≡ t = ap (λ (o : Outcome2). o .first) refused in
+      let now : records text t t2 .first ≡ t = ap (λ (o : Outcome2). o .first) (sym e) ∙ same in
+      (same, total ∙ sym (rw now (no-change n _ small)))
+
+  ends-left : n′ ≡ totalEnds text t t2 n → (o .second ≡ t2) × (n′ ≡ n)
+  unfolding totalEnds
+  ends-left total =
+      let same : o .second ≡ t2 = ap (λ (o : Outcome2). o .second) refused in
+      let now : records text t t2 .second ≡ t2 = ap (λ (o : Outcome2). o .second) (sym e) ∙ same in
+      (same, total ∙ sym (rw now (no-change n _ small)))
+
+pub record-hears : (text n m n′ m′ s z s′ z′ : List ℕ) (v t : Vector) (a : Both) (word : ℕ) → v ≡ vectorIn n → v .total .sum < 2 ^ 64 → t ≡ vectorIn m → t .total .sum < 2 ^ 64
+    → Records text v s t z a s′ z′ → n′ ≡ unlessRefused (a .number) (vectorOut (a .first)) n → m′ ≡ unlessRefused (a .number) (vectorOut (a .second)) m
+    → Worded (a .number) (a .value) (a .moves) (a .slot) word → HearsRecord text (vectorOf n s) (vectorOf m z) word (vectorOf n′ s′) (vectorOf m′ z′)
+record-hears text n m n′ m′ s z s′ z′ v t a word ev small et small2 e en em w =
     let e′ : Records text (vectorIn n) s (vectorIn m) z a s′ z′ = rw (ev, et) at e in
+    let o : Outcome2 = seen2 a s′ z′ in
+    let first = vector-comes-out n s s′ (a .first) (a .number) (λ j refuses. starts-left text _ _ o _ _ (e′ .row) (rw ev at small) j refuses (e′ .total)) in
+    let second = vector-comes-out m z z′ (a .second) (a .number) (λ j refuses. ends-left text _ _ o _ _ (e′ .row) (rw et at small2) j refuses (e′ .total2)) in
     rw (en, em) (record {
-      row = heard2-is _ _ _ _ word (vectors.tray (a .first) s′) (vectors.tray (a .second) z′) _ w (e′ .row);
+      row = heard2-is word _ _ nowhere o _ (rw (e′ .slot) at w) (first .0) (second .0) refl (e′ .row);
       slot = w .slot ∙ e′ .slot;
-      total = e′ .total;
-      total2 = e′ .total2;
+      total = first .1 ∙ e′ .total;
+      total2 = second .1 ∙ e′ .total2;
     })
+
+-- the stored form: what the writer's number and moves are
+module _ (k : Kind) (t : Tray) (text : List ℕ) where
+  writes-few : writes k t text .outcome .number < 16
+  unfolding writes
+  writes-few =
+      either (λ (w : Written). w .outcome .number < 16) (λ m. refusing t m text) (refusalsText k t text) (telling t (size (cap t)) (put text 0 (form k t)))
+      below-16 (λ clear. omega arith)
+
+  writes-still : writes k t text .outcome .moves ≡ 0
+  unfolding writes
+  writes-still =
+      either (λ (w : Written). w .outcome .moves ≡ 0) (λ m. refusing t m text) (refusalsText k t text) (telling t (size (cap t)) (put text 0 (form k t)))
+      (λ r. refl) (λ clear. refl)
+
+module _ (r : Ring) (s text text′ : List ℕ) (a : ringAnswer.Answer) (e : RingStored r s text a text′) where
+  pub ring-text-number : a .number < 16
+  ring-text-number = omega (arith, writes-few ring (rings.tray r s) text, ap (λ (w : Written). w .outcome .number) (e .row))
+
+  pub ring-text-moves : a .moves < 4096
+  ring-text-moves = omega (arith, writes-still ring (rings.tray r s) text, ap (λ (w : Written). w .outcome .moves) (e .row))
+
+  pub ring-text-slot : a .slot < 65536
+  ring-text-slot = none-fits (a .slot) (e .slot)
+
+module _ (v : Vector) (s text text′ : List ℕ) (a : vectorAnswer.Answer) (e : VectorStored v s text a text′) where
+  pub vector-text-number : a .number < 16
+  vector-text-number = omega (arith, writes-few vector (vectors.tray v s) text, ap (λ (w : Written). w .outcome .number) (e .row))
+
+  pub vector-text-moves : a .moves < 4096
+  vector-text-moves = omega (arith, writes-still vector (vectors.tray v s) text, ap (λ (w : Written). w .outcome .moves) (e .row))
+
+  pub vector-text-slot : a .slot < 65536
+  vector-text-slot = none-fits (a .slot) (e .slot)
+
+pub ruleset forms-fit = (ring-text-number, ring-text-moves, ring-text-slot, vector-text-number, vector-text-moves, vector-text-slot)
+
+-- w is what was seen of the writer, which leaves the container
+storing : (k : Kind) (b : Held) (text : List ℕ) (w : Written) (n word : ℕ) → w ≡ writes k (b .tray) text → nowhere ≡ w .outcome .cursor → n ≡ noSlot
+    → Worded (w .outcome .number) (w .outcome .value) (w .outcome .moves) n word → HearsStored k b text word (w .text)
+storing k b text w n word e none slot wd =
+    let still : b .tray ≡ w .outcome .tray = sym (ap (λ (w : Written). w .outcome .tray) e ∙ as-it-was k (b .tray) text) in
+    record {
+      row = ap (λ (o : Outcome). record { outcome = o; text = w .text }) (heard-at _ _ _ n word (b .tray) nowhere (w .outcome) wd (rw (still, none))) ∙ e;
+      slot = wd .slot ∙ slot;
+    }
+
+pub ring-stored-heard : (st s text text′ : List ℕ) (r : Ring) (a : ringAnswer.Answer) (word : ℕ) → r ≡ ringIn st → RingStored r s text a text′
+    → Worded (a .number) (a .value) (a .moves) (a .slot) word → HearsStored ring (ringOf st s) text word text′
+ring-stored-heard st s text text′ r a word er e w =
+    let e′ : RingStored (ringIn st) s text a text′ = rw er at e in
+    storing ring (ringOf st s) text (seenRing a s text′) (a .slot) word (e′ .row) refl (e′ .slot) w
+
+pub vector-stored-heard : (st s text text′ : List ℕ) (v : Vector) (a : vectorAnswer.Answer) (word : ℕ) → v ≡ vectorIn st → VectorStored v s text a text′
+    → Worded (a .number) (a .value) (a .moves) (a .slot) word → HearsStored vector (vectorOf st s) text word text′
+vector-stored-heard st s text text′ v a word ev e w =
+    let e′ : VectorStored (vectorIn st) s text a text′ = rw ev at e in
+    storing vector (vectorOf st s) text (seenVector a s text′) (a .slot) word (e′ .row) refl (e′ .slot) w
 
 -- an answer on a text alone
 pub judged-fits : (text : List ℕ) (a : Told) → a ≡ judges text → a .number < 16

@@ -2,32 +2,30 @@
 use mathlib.Core.Path.{_≡_, refl, sym, ap, _∙_}
 use mathlib.Core.Bool.{true, false}
 use mathlib.Core.List.{List}
-use Prim.Native.Nat.{ℕ, _+_, _*_, _/_, _%_, _^_, _<_}
+use Prim.Native.Nat.{ℕ, zero, suc, _+_, _*_, _/_, _%_, _^_, _<_}
 use native.Mathlib.Omega.{arith}
 use lib.Arith.{digits-div, digits-mod}
 use Rattle.slots.specs.Layout.{Kind, ring, vector}
 use Rattle.table.specs.Tray.{Tray, list, invalid, Cursor, nowhere}
-use Rattle.table.specs.Calls.{Call, Look, look, Call2, clone, has}
-use Rattle.table.specs.Table.{after, after2}
-use Rattle.table.specs.Does.{Outcome, refused, relay, done, does, rowOf, refusalsOf, Outcome2, refused2, done2, does2, rowOf2, refusalsOf2}
+use Rattle.table.specs.Calls.{Call, Look, look, Making, has}
+use Rattle.table.specs.Table.{after}
+use Rattle.table.specs.Does.{Outcome, refused, done, does, rowOf, refusalsOf, made}
 use Rattle.table.specs.Reported.{noSlot, reported}
+use Rattle.table.specs.Totals.{totalAfter}
 use Rattle.table.proofs.Laws.Refusals.{either}
-use Rattle.table.proofs.Laws.Done.{Homed, homed, done-is, many, as-it-was}
+use Rattle.table.proofs.Laws.Done.{Homed, homed, done-is}
 use Rattle.table.proofs.Laws.Looks.{look-done}
-use Rattle.table.proofs.Laws.Totalling.{first-same}
-use Rattle.table.proofs.Theorems.Refused.{few-numbers, few-numbers2}
-use Rattle.table.proofs.Theorems.Moves.{few-moves, moves-of2}
+use Rattle.table.proofs.Theorems.Refused.{few-numbers, few-numbers-made, call-refused}
+use Rattle.table.proofs.Theorems.Moves.{few-moves, moves-made}
 use Rattle.table.proofs.Theorems.Reported.{fits-16}
-use Rattle.table.proofs.Theorems.Totals.{same-total}
+use Rattle.table.proofs.Theorems.Totals.{same-total, refused-total}
 use Rattle.ring.specs.declared.Ring.{Ring}
 use Rattle.ring.specs.declared.Answer as ringAnswer
 use Rattle.ring.specs.Seen as rings
 use Rattle.vector.specs.declared.Vector.{Vector}
 use Rattle.vector.specs.declared.Answer as vectorAnswer
 use Rattle.vector.specs.Seen as vectors
-use Rattle.pairs.specs.declared.rings.Both.{Both}
-use Rattle.pairs.specs.Rings as pairs
-use Rattle.tumbrelice.specs.Heard.{Worded, heardAt, heard2, Held, Hears, Hears2, ringIn, ringOut, vectorIn, vectorOut, ringTray, ringOf, vectorOf}
+use Rattle.tumbrelice.specs.Heard.{Worded, heardAt, heard, Held, Hears, HearsMade, ringIn, ringOut, vectorIn, vectorOut, unlessRefused, ringTray, vectorTray, ringOf, vectorOf}
 
 -- the digits of a word
 pub worded : (m x k n word : ℕ) → k < 4096 → n < 65536 → x < 4294967296 → word ≡ ((m * 4096 + k) * 65536 + n) * 4294967296 + x → Worded m x k n word
@@ -43,7 +41,7 @@ worded m x k n word few small fits e =
 
 -- the same of a call that is done, whose number is 0
 pub worded-done : (m x k n word : ℕ) → m ≡ 0 → k < 4096 → n < 65536 → x < 4294967296 → word ≡ (k * 65536 + n) * 4294967296 + x → Worded m x k n word
-worded-done m x k n word zero few small fits e = worded m x k n word few small fits (omega arith)
+worded-done m x k n word done few small fits e = worded m x k n word few small fits (omega arith)
 
 -- an answer fits a word
 pub none-fits : (n : ℕ) → n ≡ noSlot → n < 65536
@@ -72,50 +70,104 @@ module _ (call : Call) (v : Vector) (s z : List ℕ) (a : vectorAnswer.Answer) (
   pub vector-slot-fits : a .slot < 65536
   vector-slot-fits = slot-fits vector call (vectors.tray v s) _ (e .row) (a .slot) (e .slot)
 
-module _ (k k2 : Kind) (call : Call2) (t t2 : Tray) (o : Outcome2) (e : o ≡ does2 k k2 call t t2) where
-  pub number-fits2 : o .number < 16
-  number-fits2 = omega (arith, few-numbers2 k k2 call t t2, ap (λ (o : Outcome2). o .number) e)
+-- so does that of a making
+module _ (m : Making) (s z : List ℕ) (a : ringAnswer.Answer) (e : rings.Makes m s a z) where
+  pub ring-made-number : a .number < 16
+  ring-made-number = omega (arith, few-numbers-made ring m s, ap (λ (o : Outcome). o .number) (e .row))
 
-  pub moves-fit2 : o .moves < 4096
-  moves-fit2 = omega (arith, moves-of2 k k2 call t t2, ap (λ (o : Outcome2). o .moves) e)
+  pub ring-made-moves : a .moves < 4096
+  ring-made-moves = omega (arith, moves-made ring m s, ap (λ (o : Outcome). o .moves) (e .row))
 
-module _ (call : Call2) (r t : Ring) (s z s′ z′ : List ℕ) (a : Both) (e : pairs.Meets call r s t z a s′ z′) where
-  pub two-number-fits : a .number < 16
-  two-number-fits = number-fits2 ring ring call _ _ _ (e .row)
+  pub ring-made-slot : a .slot < 65536
+  ring-made-slot = none-fits (a .slot) (e .slot)
 
-  pub two-moves-fit : a .moves < 4096
-  two-moves-fit = moves-fit2 ring ring call _ _ _ (e .row)
+module _ (m : Making) (s z : List ℕ) (a : vectorAnswer.Answer) (e : vectors.Makes m s a z) where
+  pub vector-made-number : a .number < 16
+  vector-made-number = omega (arith, few-numbers-made vector m s, ap (λ (o : Outcome). o .number) (e .row))
 
-  pub two-slot-fits : a .slot < 65536
-  two-slot-fits = none-fits (a .slot) (e .slot)
+  pub vector-made-moves : a .moves < 4096
+  vector-made-moves = omega (arith, moves-made vector m s, ap (λ (o : Outcome). o .moves) (e .row))
+
+  pub vector-made-slot : a .slot < 65536
+  vector-made-slot = none-fits (a .slot) (e .slot)
+
+pub ruleset making-fits = (ring-made-number, ring-made-moves, ring-made-slot, vector-made-number, vector-made-moves, vector-made-slot)
 
 pub ruleset ring-fits = (ring-number-fits, ring-moves-fit, ring-slot-fits)
 
 pub ruleset vector-fits = (vector-number-fits, vector-moves-fit, vector-slot-fits)
-
-pub ruleset two-fit = (two-number-fits, two-moves-fit, two-slot-fits)
 
 -- what is heard of a call is what is seen of it
 pub heard-at : (m x k n word : ℕ) (t : Tray) (u : Cursor) (o : Outcome) → Worded m x k n word
     → record { number = m; value = x; moves = k; tray = t; cursor = u } ≡ o → heardAt word t u ≡ o
 heard-at m x k n word t u o w e = cc
 
-pub heard2-is : (m x k n word : ℕ) (t t2 : Tray) (o : Outcome2) → Worded m x k n word
-    → record { number = m; value = x; moves = k; first = t; second = t2; cursor = nowhere } ≡ o → heard2 word t t2 ≡ o
-heard2-is m x k n word t t2 o w e = cc
+-- the private functions that store nothing where a call is refused
+pub refused-keeps : (m : ℕ) (out given numbers : List ℕ) → (m ≡ 0 → ⊥) → numbers ≡ given → numbers ≡ unlessRefused m out given
+refused-keeps zero out given numbers some e = absurd (some refl)
+refused-keeps (suc m) out given numbers some e = e
+
+pub done-leaves : (m : ℕ) (out given numbers : List ℕ) → m ≡ 0 → numbers ≡ out → numbers ≡ unlessRefused m out given
+done-leaves m out given numbers done e = rw done e
+
+-- A STATE THAT COMES OUT, for either kind: `goes` is how its numbers go in, `comes` how they come out. Where the call is refused the answer has the container as
+-- it was, so the numbers that were given are the answer's too.
+module _ {S : Type 0} (goes : List ℕ → S) (comes : S → List ℕ) (tray : S → List ℕ → Tray) (sum : S → ℕ)
+    (back : (s : S) (z : List ℕ) → tray (goes (comes s)) z ≡ tray s z) (back-sum : (s : S) → sum (goes (comes s)) ≡ sum s) (slots : (s : S) (z : List ℕ) → tray s z .slots ≡ z) where
+  comes-out : (st z z′ : List ℕ) (s : S) (m : ℕ) → ((j : ℕ) → m ≡ suc j → (tray s z′ ≡ tray (goes st) z) × (sum s ≡ sum (goes st)))
+      → (tray (goes (unlessRefused m (comes s) st)) z′ ≡ tray s z′) × (sum (goes (unlessRefused m (comes s) st)) ≡ sum s)
+  comes-out st z z′ s zero refused = (back s z′, back-sum s)
+  comes-out st z z′ s (suc j) refused =
+      let stays = refused j refl in
+      let same : z′ ≡ z = sym (slots s z′) ∙ ap (λ (t : Tray). t .slots) (stays .0) ∙ slots (goes st) z in
+      (ap (tray (goes st)) same ∙ sym (stays .0), sym (stays .1))
+
+pub ring-comes-out : (st z z′ : List ℕ) (r : Ring) (m : ℕ) → ((j : ℕ) → m ≡ suc j → (rings.tray r z′ ≡ ringTray st z) × (r .total .sum ≡ ringIn st .total .sum))
+    → (ringTray (unlessRefused m (ringOut r) st) z′ ≡ rings.tray r z′) × (ringIn (unlessRefused m (ringOut r) st) .total .sum ≡ r .total .sum)
+ring-comes-out = comes-out ringIn ringOut rings.tray (λ r. r .total .sum) (λ r z. refl) (λ r. refl) (λ r z. refl)
+
+pub vector-comes-out : (n z z′ : List ℕ) (v : Vector) (m : ℕ) → ((j : ℕ) → m ≡ suc j → (vectors.tray v z′ ≡ vectorTray n z) × (v .total .sum ≡ vectorIn n .total .sum))
+    → (vectorTray (unlessRefused m (vectorOut v) n) z′ ≡ vectors.tray v z′) × (vectorIn (unlessRefused m (vectorOut v) n) .total .sum ≡ v .total .sum)
+vector-comes-out = comes-out vectorIn vectorOut vectors.tray (λ v. v .total .sum) (λ v z. refl) (λ v. refl) (λ v z. refl)
+
+-- what a refused call leaves: the tray, and the total n′ that it answers where n was given
+left : (k : Kind) (call : Call) (t : Tray) (o : Outcome) (n n′ : ℕ) → o ≡ does k call t → n′ ≡ totalAfter k call t n → n < 2 ^ 64 → (j : ℕ) → o .number ≡ suc j → (o .tray ≡ t) × (n′ ≡ n)
+left k call t o n n′ e total small j refuses =
+    (ap (λ o. o .tray) (call-refused k call t o e j refuses), total ∙ sym (refused-total k call t o j n e refuses small))
 
 -- THE RULES of the exported calls: the state goes in, the call meets its promise, the state comes out, and the answer is a word.
-pub ring-hears : (call : Call) (st st′ s s′ : List ℕ) (r : Ring) (a : ringAnswer.Answer) (word : ℕ) → r ≡ ringIn st → rings.Meets call r s a s′
-    → st′ ≡ ringOut (a .ring) → Worded (a .number) (a .value) (a .moves) (a .slot) word → Hears ring call (ringOf st s) word (ringOf st′ s′)
-ring-hears call st st′ s s′ r a word er e es w =
+pub ring-hears : (call : Call) (st st′ s s′ : List ℕ) (r : Ring) (a : ringAnswer.Answer) (word : ℕ) → r ≡ ringIn st → r .total .sum < 2 ^ 64 → rings.Meets call r s a s′
+    → st′ ≡ unlessRefused (a .number) (ringOut (a .ring)) st → Worded (a .number) (a .value) (a .moves) (a .slot) word → Hears ring call (ringOf st s) word (ringOf st′ s′)
+ring-hears call st st′ s s′ r a word er small e es w =
     let e′ : rings.Meets call (ringIn st) s a s′ = rw er at e in
-    rw es (record { row = heard-at _ _ _ _ word (rings.tray (a .ring) s′) nowhere _ w (e′ .row); slot = w .slot ∙ e′ .slot; total = e′ .total })
+    let out = ring-comes-out st s s′ (a .ring) (a .number) (left ring call (ringTray st s) (rings.seen a s′) _ _ (e′ .row) (e′ .total) (rw er at small)) in
+    rw es (record {
+      row = ap (heard word) (out .0) ∙ heard-at _ _ _ _ word (rings.tray (a .ring) s′) nowhere _ w (e′ .row);
+      slot = w .slot ∙ e′ .slot;
+      total = out .1 ∙ e′ .total;
+    })
 
-pub vector-hears : (call : Call) (st st′ s s′ : List ℕ) (v : Vector) (a : vectorAnswer.Answer) (word : ℕ) → v ≡ vectorIn st → vectors.Meets call v s a s′
-    → st′ ≡ vectorOut (a .vector) → Worded (a .number) (a .value) (a .moves) (a .slot) word → Hears vector call (vectorOf st s) word (vectorOf st′ s′)
-vector-hears call st st′ s s′ v a word ev e en w =
+pub vector-hears : (call : Call) (st st′ s s′ : List ℕ) (v : Vector) (a : vectorAnswer.Answer) (word : ℕ) → v ≡ vectorIn st → v .total .sum < 2 ^ 64 → vectors.Meets call v s a s′
+    → st′ ≡ unlessRefused (a .number) (vectorOut (a .vector)) st → Worded (a .number) (a .value) (a .moves) (a .slot) word → Hears vector call (vectorOf st s) word (vectorOf st′ s′)
+vector-hears call st st′ s s′ v a word ev small e en w =
     let e′ : vectors.Meets call (vectorIn st) s a s′ = rw ev at e in
-    rw en (record { row = heard-at _ _ _ _ word (vectors.tray (a .vector) s′) nowhere _ w (e′ .row); slot = w .slot ∙ e′ .slot; total = e′ .total })
+    let out = vector-comes-out st s s′ (a .vector) (a .number) (left vector call (vectorTray st s) (vectors.seen a s′) _ _ (e′ .row) (e′ .total) (rw ev at small)) in
+    rw en (record {
+      row = ap (heard word) (out .0) ∙ heard-at _ _ _ _ word (vectors.tray (a .vector) s′) nowhere _ w (e′ .row);
+      slot = w .slot ∙ e′ .slot;
+      total = out .1 ∙ e′ .total;
+    })
+
+-- a making's state comes out whole
+pub ring-made-heard : (m : Making) (st′ s s′ : List ℕ) (a : ringAnswer.Answer) (word : ℕ) → rings.Makes m s a s′ → st′ ≡ ringOut (a .ring)
+    → Worded (a .number) (a .value) (a .moves) (a .slot) word → HearsMade ring m s word (ringOf st′ s′)
+ring-made-heard m st′ s s′ a word e es w =
+    rw es (record { row = heard-at _ _ _ _ word (rings.tray (a .ring) s′) nowhere _ w (e .row); slot = w .slot ∙ e .slot; total = e .total })
+
+pub vector-made-heard : (m : Making) (st′ s s′ : List ℕ) (a : vectorAnswer.Answer) (word : ℕ) → vectors.Makes m s a s′ → st′ ≡ vectorOut (a .vector)
+    → Worded (a .number) (a .value) (a .moves) (a .slot) word → HearsMade vector m s word (vectorOf st′ s′)
+vector-made-heard m st′ s s′ a word e es w =
+    rw es (record { row = heard-at _ _ _ _ word (vectors.tray (a .vector) s′) nowhere _ w (e .row); slot = w .slot ∙ e .slot; total = e .total })
 
 -- a look leaves the container as it is, so a caller keeps the state that it gave
 look-still : (k : Kind) (q : Look) (t : Tray) → (invalid k t ≡ false → Homed k t) → does k (look q) t .tray ≡ t
@@ -147,47 +199,3 @@ pub vector-looked : (q : Look) (st s : List ℕ) (v : Vector) (a : vectorAnswer.
 vector-looked q st s v a word ev small e w =
     let e′ : vectors.Meets (look q) (vectorIn st) s a s = rw ev at e in
     looked _ _ _ _ word _ (vectorOf st s) vector q (λ ok. refl) (rw ev at small) w (e′ .slot) (e′ .row)
-
--- on two rings
-pub rings-hear : (call : Call2) (st ot st′ ot′ s z s′ z′ : List ℕ) (r t : Ring) (a : Both) (word : ℕ) → r ≡ ringIn st → t ≡ ringIn ot
-    → pairs.Meets call r s t z a s′ z′ → st′ ≡ ringOut (a .first) → ot′ ≡ ringOut (a .second) → Worded (a .number) (a .value) (a .moves) (a .slot) word
-    → Hears2 ring ring call (ringOf st s) (ringOf ot z) word (ringOf st′ s′) (ringOf ot′ z′)
-rings-hear call st ot st′ ot′ s z s′ z′ r t a word er et e es eo w =
-    let e′ : pairs.Meets call (ringIn st) s (ringIn ot) z a s′ z′ = rw (er, et) at e in
-    rw (es, eo) (record {
-      row = heard2-is _ _ _ _ word (rings.tray (a .first) s′) (rings.tray (a .second) z′) _ w (e′ .row);
-      slot = w .slot ∙ e .slot;
-      total = e′ .total;
-      total2 = e′ .total2;
-    })
-
--- a container whose list and head stay is as it was
-pub unmoved : (k : Kind) (t : Tray) → invalid k t ≡ false → Homed k t → relay k t (list k t) (t .head) ≡ t
-unmoved k t ok home =
-    let as-before : relay k t (list k t) (t .head) ≡ record { head = t .head; len = t .len; slots = t .slots } = cc (home, many k t, as-it-was k t ok) in
-    as-before
-
--- clone leaves the container that it copies
-clone-still : (k k2 : Kind) (t t2 : Tray) → (invalid k t ≡ false → Homed k t) → does2 k k2 clone t t2 .first ≡ t
-unfolding does2
-clone-still k k2 t t2 home =
-    either (λ (o : Outcome2). o .first ≡ t) (refused2 t t2 (rowOf2 k k2 clone t t2 .given)) (refusalsOf2 k k2 clone t t2)
-    (done2 k k2 t t2 (after2 clone (list k t) (list k2 t2)) (rowOf2 k k2 clone t t2))
-    (λ r. refl)
-    (λ clear. unmoved k t (clear .0) (home (clear .0)))
-
-pub rings-cloned : (st ot ot′ s z z′ : List ℕ) (r t : Ring) (a : Both) (word : ℕ) → r ≡ ringIn st → r .total .sum < 2 ^ 64 → t ≡ ringIn ot
-    → pairs.Meets clone r s t z a s z′ → ot′ ≡ ringOut (a .second) → Worded (a .number) (a .value) (a .moves) (a .slot) word
-    → Hears2 ring ring clone (ringOf st s) (ringOf ot z) word (ringOf st s) (ringOf ot′ z′)
-rings-cloned st ot ot′ s z z′ r t a word er small et e eo w =
-    let e′ : pairs.Meets clone (ringIn st) s (ringIn ot) z a s z′ = rw (er, et) at e in
-    let still = clone-still ring ring (ringTray st s) (ringTray ot z) (homed (ringTray st s)) in
-    let kept : rings.tray (a .first) s ≡ ringTray st s = ap (λ (o : Outcome2). o .first) (e′ .row) ∙ still in
-    rw eo (record {
-      row =
-          heard2-is _ _ _ _ word (ringTray st s) (rings.tray (a .second) z′) _ w
-          (ap (λ t. record { number = a .number; value = a .value; moves = a .moves; first = t; second = rings.tray (a .second) z′; cursor = nowhere }) (sym kept) ∙ e′ .row);
-      slot = w .slot ∙ e .slot;
-      total = first-same ring ring clone (ringTray st s) (ringTray ot z) _ _ (ringIn ot .total .sum) refl still (rw er at small);
-      total2 = e′ .total2;
-    })

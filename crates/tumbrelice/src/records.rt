@@ -18,8 +18,8 @@ pub extern "C" fn tum_record_read(
     let v = vector_in(state);
     let t = vector_in(other);
     let a = record::read(text, v, slots, t, theirs);
-    vector_out(state, a.first);
-    vector_out(other, a.second);
+    vector_out(state, a.number, a.first);
+    vector_out(other, a.number, a.second);
     word(a.number, a.value, a.moves, a.slot)
 }
 

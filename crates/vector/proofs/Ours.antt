@@ -109,7 +109,7 @@ reading-homes part = showing-homes _ _ (λ k t. refl)
 
 -- The parts that are only read. That the slots stay is the `&`'s doing; that the part is the one lent is the promise's.
 module _ (part : Tray → Part) (w : World) (i : ℕ) (t : Tray) where
-  reads : (held : List ℕ) → Is w i vector t → held ≡ inPart (part t) (t .slots) → Ours w (called i (reading part) (shown held t))
+  pub reads : (held : List ℕ) → Is w i vector t → held ≡ inPart (part t) (t .slots) → Ours w (called i (reading part) (shown held t))
   reads held is holds = ours-called w i _ _ _ _ (showing-kept _ _ (λ k t. refl)) refl is (ap (λ l. shown l t) holds)
 
 module _ (w : World) (i : ℕ) (κs : Lfts 1) where

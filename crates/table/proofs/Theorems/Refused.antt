@@ -65,3 +65,6 @@ module _ (k : Kind) (m : Making) (slots : List ℕ) where
 
     pub made-clear : o .number ≡ 0 → Clear (refusalsMade m slots)
     made-clear = rw promised (made-settled .clear)
+
+pub few-numbers-made : (k : Kind) (m : Making) (slots : List ℕ) → made k m slots .number < 16
+few-numbers-made k m slots = rw (made-settled k m slots .first) (first-below-16 (refusalsMade m slots))

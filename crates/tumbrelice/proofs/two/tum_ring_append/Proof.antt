@@ -1,6 +1,6 @@
 -- `tum_ring_append` meets its promise: what is heard of the call is what is seen of it.
 use borrow.Author.Needs.{needs}
-use Rattle.tumbrelice.proofs.Words.{two-fit, rings-hear}
+use Rattle.tumbrelice.proofs.Twos.{rings-fit, rings-hear}
 use Rattle.tumbrelice.proofs.two.tum_ring_append.Statement.{statement}
 use Rattle.tumbrelice.proofs.two.tum_ring_append.Tie as tie
 
@@ -13,7 +13,7 @@ tum-ring-append-spec =
     (λ c κs. search needs)
     (λ c κs. search needs)
     (λ c κs. search needs)
-    (λ c κs. search two-fit)
+    (λ c κs. search rings-fit)
     (λ c. search needs)
     (λ c. search needs)
     (λ c. search rings-hear))

@@ -1,6 +1,6 @@
 -- `tum_ring_clone` meets its promise: what is heard of the call is what is seen of it.
 use borrow.Author.Needs.{needs}
-use Rattle.tumbrelice.proofs.Words.{two-fit, rings-cloned}
+use Rattle.tumbrelice.proofs.Twos.{rings-fit, rings-cloned}
 use Rattle.tumbrelice.proofs.two.tum_ring_clone.Statement.{statement}
 use Rattle.tumbrelice.proofs.two.tum_ring_clone.Tie as tie
 
@@ -12,6 +12,6 @@ tum-ring-clone-spec =
     (λ c κs. search needs)
     (λ c κs. search needs)
     (λ c κs. search needs)
-    (λ c κs. search two-fit)
+    (λ c κs. search rings-fit)
     (λ c. search needs)
     (λ c. search rings-cloned))

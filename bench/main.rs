@@ -1,17 +1,23 @@
-// Measures the proved calls against Rust's own containers, side by side in one run: each round times a batch on one side and then the same batch
-// on the other, and the rows are gone through several times. Then records, against other readers of them. Prints the ratios and writes them, with what
-// falls short and why, to a file. With BENCH_ONLY=records the containers are left out, and nothing is written.
+// Measures the proved calls against Rust's own containers and against the same rules by hand, side by side in one run: each round times a batch on one
+// side and then the same batch on the next, and the rows are gone through several times. Then records, against other readers of them. Prints the ratios
+// and writes them, with what falls short and why, to a file. With BENCH_ONLY=records the containers are left out, and nothing is written.
 #[cfg(arrayvec)]
 mod array;
+mod check;
+mod found;
+mod hand;
 mod ours;
 mod place;
 mod records;
 mod rows;
 mod texts;
 mod theirs;
+#[cfg(tinyvec)]
+mod tiny;
 mod work;
 
-use rows::{rows, Row, Side};
+use found::{median, Found, Round, OURS, THEIRS};
+use rows::{Row, Side};
 use std::fmt::Write;
 use std::time::Instant;
 use work::Came;
@@ -23,86 +29,35 @@ const CAPS: [usize; 3] = [16, 256, 4096];
 const BATCH: f64 = 40_000.0; // nanoseconds
 const PASSES: usize = 5;
 
-// The sides of a row.
-const OURS: usize = 0;
-const THEIRS: usize = 1;
-
-fn median(xs: &mut [f64]) -> f64 {
-    xs.sort_by(f64::total_cmp);
-    xs[xs.len() / 2]
-}
-
 fn time(side: &mut Side, k: usize) -> (f64, Came) {
     let start = Instant::now();
     let came = side(k);
     (start.elapsed().as_nanos() as f64 / k as f64, came)
 }
 
-// The times of each side and the ratio of ours to Rust's, round by round.
-#[derive(Default)]
-struct Times {
-    spent: [Vec<f64>; 2],
-    ratio: Vec<f64>,
-}
-
-fn measure(row: &Row, at: usize, rounds: usize, times: &mut Times) {
+// Each side takes its turn in a round; another begins in the next, and after each has begun the turn goes the other way round.
+fn measure(row: &Row, at: usize, rounds: usize, times: &mut Vec<Round>) {
     let mut sides = row.sides[at]();
+    let alike = sides.len();
+    sides.extend(row.demanded.map(|demanded| demanded(CAPS[at] * 3 / 4)));
+    let count = sides.len();
     let mut k = 16;
     loop {
-        let spent = [OURS, THEIRS].map(|side| time(&mut sides[side], k).0);
+        let spent: Vec<f64> = sides.iter_mut().map(|side| time(side, k).0).collect();
         if spent[THEIRS] * (k as f64) >= BATCH {
             break;
         }
         k *= 2;
     }
     for round in 0..rounds {
-        let mut seen: [(f64, Came); 2] = Default::default();
-        for turn in 0..2 {
-            let side = (round + turn) % 2;
-            seen[side] = time(&mut sides[side], k);
+        let mut spent = Round::default();
+        let mut came: [Came; 4] = Default::default();
+        for turn in 0..count {
+            let side = if round / count % 2 == 0 { (round + turn) % count } else { (round + count - turn) % count };
+            (spent[side], came[side]) = time(&mut sides[side], k);
         }
-        assert_eq!(seen[OURS].1, seen[THEIRS].1, "{} at {}: ours gave other entries than Rust's", row.name, CAPS[at]);
-        for side in [OURS, THEIRS] {
-            times.spent[side].push(seen[side].0);
-        }
-        times.ratio.push(seen[OURS].0 / seen[THEIRS].0);
-    }
-}
-
-// A row as it came out.
-struct Found {
-    name: &'static str,
-    why: &'static str,
-    most: [f64; 3],
-    ratios: Vec<f64>,
-    spans: Vec<String>,
-}
-
-impl Found {
-    fn new(row: &Row, times: &mut [Times; 3]) -> Found {
-        Found {
-            name: row.name,
-            why: row.why,
-            most: row.most,
-            ratios: times.iter_mut().map(|t| median(&mut t.ratio)).collect(),
-            spans: times.iter_mut().map(|t| format!("{:.1} / {:.1}", median(&mut t.spent[OURS]), median(&mut t.spent[THEIRS]))).collect(),
-        }
-    }
-
-    fn line(&self) -> String {
-        let ratios = self.ratios.iter().map(|&r| if r < 0.1 { format!("{r:.3}") } else { format!("{r:.2}") }).collect::<Vec<_>>();
-        format!("| {} | {} | {} |", self.name, ratios.join(" | "), self.spans.join(" | "))
-    }
-
-    // The capacities at which it is above the ratio to reach.
-    fn over(&self) -> Vec<String> {
-        (0..3).filter(|&c| self.ratios[c] > self.most[c] + 0.005).map(|c| CAPS[c].to_string()).collect()
-    }
-
-    // What falls short, if it does.
-    fn short(&self) -> Option<String> {
-        let over = self.over();
-        (!over.is_empty()).then(|| format!("| {} | {} | {} |", self.name, over.join(", "), self.why))
+        assert!(came[..alike].iter().all(|c| *c == came[OURS]), "{} at {}: the sides gave other entries, {came:?}", row.name, CAPS[at]);
+        times.push(spent);
     }
 }
 
@@ -110,10 +65,9 @@ fn said(name: &str) -> String {
     std::env::var(name).unwrap_or_else(|_| "not said".into())
 }
 
-// The table of the containers, and what of it falls short.
-fn containers(rounds: usize) -> (String, String) {
-    let rows = rows();
-    let mut times: Vec<[Times; 3]> = rows.iter().map(|_| Default::default()).collect();
+// The rows, measured in passes over all of them.
+fn rows_of(rows: Vec<Row>, rounds: usize) -> Vec<Found> {
+    let mut times: Vec<[Vec<Round>; 3]> = rows.iter().map(|_| Default::default()).collect();
     for _ in 0..PASSES {
         for (row, times) in rows.iter().zip(&mut times) {
             for at in 0..3 {
@@ -121,14 +75,15 @@ fn containers(rounds: usize) -> (String, String) {
             }
         }
     }
-    let found: Vec<Found> = rows.iter().zip(&mut times).map(|(row, times)| Found::new(row, times)).collect();
-    let (mut table, mut short) = (String::new(), String::new());
-    for f in &found {
-        println!("{}", f.line());
-        writeln!(table, "{}", f.line()).unwrap();
-        f.short().into_iter().for_each(|line| writeln!(short, "{line}").unwrap());
-    }
-    (table, short)
+    rows.into_iter().zip(times).map(|(row, times)| Found { row, times }).collect()
+}
+
+// One line a row, printed too.
+fn lines(found: &[Found], line: fn(&Found) -> Vec<String>) -> String {
+    let mut table = String::new();
+    found.iter().flat_map(line).for_each(|line| writeln!(table, "{line}").unwrap());
+    println!("{table}");
+    table
 }
 
 fn records(rounds: usize) -> String {
@@ -144,7 +99,13 @@ fn main() {
         records(rounds);
         return;
     }
-    let (table, short) = containers(rounds);
+    let (done, refused) = check::agree();
+    println!("by hand and ours agree in {done} random calls that were done and {refused} that were refused");
+    let (containers, vectors) = (rows_of(rows::containers(), rounds), rows_of(rows::vectors(), rounds));
+    let table = lines(&containers, |f| vec![f.line()]);
+    let limits = lines(&containers, |f| f.limit().into_iter().collect());
+    let others = lines(&vectors, |f| vec![f.line()]);
+    let short = lines(&containers, Found::short) + &lines(&vectors, Found::short);
     let records = records(rounds);
     let Some(file) = args.get(2) else { return };
     let paper = include_str!("paper.md")
@@ -154,10 +115,15 @@ fn main() {
         .replace("{built}", &said("BENCH_BUILT"))
         .replace("{plain}", &said("BENCH_PLAIN"))
         .replace("{arrayvec}", &said("BENCH_ARRAYVEC"))
+        .replace("{tinyvec}", &said("BENCH_TINYVEC"))
         .replace("{csv-core}", &said("BENCH_CSV_CORE"))
         .replace("{libcsv}", &said("BENCH_LIBCSV"))
         .replace("{rounds}", &(rounds * PASSES).to_string())
+        .replace("{checked}", &(done + refused).to_string())
+        .replace("{refused}", &refused.to_string())
         .replace("{table}", table.trim_end())
+        .replace("{limits}", limits.trim_end())
+        .replace("{others}", others.trim_end())
         .replace("{short}", short.trim_end())
         .replace("{rounds of records}", &records::rounds_of(rounds).to_string())
         .replace("{records}", &records);

@@ -3,34 +3,34 @@ use crate::place::{Line, Page};
 use crate::work;
 
 // An answer: the value in the low 32 bits, the slot in the next 16, the moves in the next 12, the number in the high 4.
-type Word = u64;
-type RingState = [u64; 3]; // its head, length and total
-type VectorState = [u64; 2]; // its length and total
+pub type Word = u64;
+pub type RingState = [u64; 3]; // its head, length and total
+pub type VectorState = [u64; 2]; // its length and total
 
 extern "C" {
-    fn tum_ring_push_back(slots: *mut u32, cap: usize, state: *mut RingState, x: u32) -> Word;
-    fn tum_ring_push_front(slots: *mut u32, cap: usize, state: *mut RingState, x: u32) -> Word;
-    fn tum_ring_pop_back(slots: *mut u32, cap: usize, state: *mut RingState) -> Word;
-    fn tum_ring_pop_front(slots: *mut u32, cap: usize, state: *mut RingState) -> Word;
-    fn tum_ring_read(slots: *const u32, cap: usize, state: *const RingState, i: usize) -> Word;
-    fn tum_ring_insert(slots: *mut u32, cap: usize, state: *mut RingState, i: usize, x: u32) -> Word;
-    fn tum_ring_remove(slots: *mut u32, cap: usize, state: *mut RingState, i: usize) -> Word;
-    fn tum_ring_clear(slots: *mut u32, cap: usize, state: *mut RingState) -> Word;
-    fn tum_ring_resize(slots: *mut u32, cap: usize, state: *mut RingState, k: usize, x: u32) -> Word;
-    fn tum_ring_append(slots: *mut u32, cap: usize, state: *mut RingState, theirs: *mut u32, room: usize, other: *mut RingState) -> Word;
-    fn tum_ring_clone(slots: *const u32, cap: usize, state: *const RingState, theirs: *mut u32, room: usize, other: *mut RingState) -> Word;
-    fn tum_ring_same(slots: *const u32, cap: usize, state: *const RingState, theirs: *const u32, room: usize, other: *const RingState) -> Word;
-    fn tum_ring_same_as_vector(slots: *const u32, cap: usize, state: *const RingState, theirs: *const u32, room: usize, other: *const VectorState) -> Word;
-    fn tum_vector_equal(slots: *const u32, cap: usize, state: *const VectorState, theirs: *const u32, room: usize, other: *const VectorState) -> Word;
-    fn tum_ring_step_front(slots: *const u32, cap: usize, state: *const RingState, cursor: *mut [usize; 2]) -> Word;
-    fn tum_vector_push(slots: *mut u32, cap: usize, state: *mut VectorState, x: u32) -> Word;
-    fn tum_vector_pop(slots: *mut u32, cap: usize, state: *mut VectorState) -> Word;
-    fn tum_vector_read(slots: *const u32, cap: usize, state: *const VectorState, i: usize) -> Word;
-    fn tum_vector_insert(slots: *mut u32, cap: usize, state: *mut VectorState, i: usize, x: u32) -> Word;
-    fn tum_vector_remove(slots: *mut u32, cap: usize, state: *mut VectorState, i: usize) -> Word;
-    fn tum_vector_swap_remove(slots: *mut u32, cap: usize, state: *mut VectorState, i: usize) -> Word;
-    fn tum_vector_extend_from_slice(slots: *mut u32, cap: usize, state: *mut VectorState, s: *const u32, count: usize) -> Word;
-    fn tum_vector_truncate(slots: *mut u32, cap: usize, state: *mut VectorState, k: usize) -> Word;
+    pub fn tum_ring_push_back(slots: *mut u32, cap: usize, state: *mut RingState, x: u32) -> Word;
+    pub fn tum_ring_push_front(slots: *mut u32, cap: usize, state: *mut RingState, x: u32) -> Word;
+    pub fn tum_ring_pop_back(slots: *mut u32, cap: usize, state: *mut RingState) -> Word;
+    pub fn tum_ring_pop_front(slots: *mut u32, cap: usize, state: *mut RingState) -> Word;
+    pub fn tum_ring_read(slots: *const u32, cap: usize, state: *const RingState, i: usize) -> Word;
+    pub fn tum_ring_insert(slots: *mut u32, cap: usize, state: *mut RingState, i: usize, x: u32) -> Word;
+    pub fn tum_ring_remove(slots: *mut u32, cap: usize, state: *mut RingState, i: usize) -> Word;
+    pub fn tum_ring_clear(slots: *mut u32, cap: usize, state: *mut RingState) -> Word;
+    pub fn tum_ring_resize(slots: *mut u32, cap: usize, state: *mut RingState, k: usize, x: u32) -> Word;
+    pub fn tum_ring_append(slots: *mut u32, cap: usize, state: *mut RingState, theirs: *mut u32, room: usize, other: *mut RingState) -> Word;
+    pub fn tum_ring_clone(slots: *const u32, cap: usize, state: *const RingState, theirs: *mut u32, room: usize, other: *mut RingState) -> Word;
+    pub fn tum_ring_same(slots: *const u32, cap: usize, state: *const RingState, theirs: *const u32, room: usize, other: *const RingState) -> Word;
+    pub fn tum_ring_same_as_vector(slots: *const u32, cap: usize, state: *const RingState, theirs: *const u32, room: usize, other: *const VectorState) -> Word;
+    pub fn tum_vector_equal(slots: *const u32, cap: usize, state: *const VectorState, theirs: *const u32, room: usize, other: *const VectorState) -> Word;
+    pub fn tum_ring_step_front(slots: *const u32, cap: usize, state: *const RingState, cursor: *mut [usize; 2]) -> Word;
+    pub fn tum_vector_push(slots: *mut u32, cap: usize, state: *mut VectorState, x: u32) -> Word;
+    pub fn tum_vector_pop(slots: *mut u32, cap: usize, state: *mut VectorState) -> Word;
+    pub fn tum_vector_read(slots: *const u32, cap: usize, state: *const VectorState, i: usize) -> Word;
+    pub fn tum_vector_insert(slots: *mut u32, cap: usize, state: *mut VectorState, i: usize, x: u32) -> Word;
+    pub fn tum_vector_remove(slots: *mut u32, cap: usize, state: *mut VectorState, i: usize) -> Word;
+    pub fn tum_vector_swap_remove(slots: *mut u32, cap: usize, state: *mut VectorState, i: usize) -> Word;
+    pub fn tum_vector_extend_from_slice(slots: *mut u32, cap: usize, state: *mut VectorState, s: *const u32, count: usize) -> Word;
+    pub fn tum_vector_truncate(slots: *mut u32, cap: usize, state: *mut VectorState, k: usize) -> Word;
 }
 
 static mut LENT: [Page; 2] = [const { Page::of(0) }; 2];

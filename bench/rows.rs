@@ -1,44 +1,60 @@
-// The rows of the table: what each measures, on which sides, and what keeps it above the ratio to reach, where something does.
+// The rows of the tables: what each measures, on which sides, and what keeps it above the ratio to reach, where something does.
 #[cfg(arrayvec)]
 use crate::array;
 use crate::place::Page;
+#[cfg(tinyvec)]
+use crate::tiny;
 use crate::work::*;
-use crate::{ours, theirs};
+use crate::{hand, ours, theirs};
 
 pub type Side = Box<dyn FnMut(usize) -> Came>;
 
 pub struct Row {
     pub name: &'static str,
-    pub why: &'static str, // what keeps it above the ratio, where it is
-    pub most: [f64; 3], // the ratio to reach at each capacity
-    pub sides: [fn() -> [Side; 2]; 3], // at each capacity: ours, then Rust's
+    pub most: [f64; 3], // the ratio to Rust's to reach at each capacity
+    pub why: &'static str, // what keeps it above that, where it is
+    pub by_hand: &'static str, // what keeps it above the ratio to the same rules by hand
+    pub sides: [fn() -> Vec<Side>; 3], // at each capacity: ours, Rust's or that of another vector, and beside Rust's by hand
+    pub demanded: Option<fn(usize) -> Side>, // of so many entries, what the rules demand and Rust doesn't do
 }
 
-pub const MOST: [f64; 3] = [1.1, 1.0, 1.0];
+pub const MOST: [f64; 3] = [1.1; 3];
 pub const MOST_SAME: [f64; 3] = [f64::INFINITY, 1.2, 1.2]; // of a comparison: none is set at 16
 pub const MOST_TOTAL: [f64; 3] = [0.75, 0.1, 0.01]; // of a total, which Rust's containers do not keep
 
 // The same work on each side, at each capacity, on a container that is three quarters full.
 macro_rules! row {
-    ($name:literal, $why:expr, $theirs:ident, $kind:ident, $($rest:tt)*) => {
-        row!(MOST, $name, $why, $theirs, $kind, $($rest)*)
-    };
-    ($most:ident, $name:literal, $why:expr, $theirs:ident, $kind:ident, $($rest:tt)*) => {
+    ($name:literal, [$($side:ident),+], $most:ident, $why:expr, $by_hand:expr, $demanded:expr, $work:tt) => {
         Row {
             name: $name,
-            why: $why,
             most: $most,
-            sides: [
-                || [side!(ours, $kind, 16, $($rest)*), side!($theirs, $kind, 16, $($rest)*)],
-                || [side!(ours, $kind, 256, $($rest)*), side!($theirs, $kind, 256, $($rest)*)],
-                || [side!(ours, $kind, 4096, $($rest)*), side!($theirs, $kind, 4096, $($rest)*)],
-            ],
+            why: $why,
+            by_hand: $by_hand,
+            sides: [|| vec![$(side!($side, 16, $work)),+], || vec![$(side!($side, 256, $work)),+], || vec![$(side!($side, 4096, $work)),+]],
+            demanded: $demanded,
         }
     };
 }
 
+// Beside Rust's containers and by hand.
+macro_rules! both {
+    ($name:literal, $most:ident, $why:expr, $by_hand:expr, $work:tt) => {
+        row!($name, [ours, theirs, hand], $most, $why, $by_hand, None, $work)
+    };
+    ($name:literal, $most:ident, $why:expr, $by_hand:expr, $demanded:expr, $work:tt) => {
+        row!($name, [ours, theirs, hand], $most, $why, $by_hand, Some($demanded), $work)
+    };
+}
+
+// Beside a vector of another crate.
+macro_rules! beside {
+    ($name:literal, $side:ident, $why:expr, $work:tt) => {
+        row!($name, [ours, $side], MOST, $why, "", None, $work)
+    };
+}
+
 macro_rules! side {
-    ($side:ident, $kind:ident, $cap:literal, [$($which:literal)?], $begin:ident, |$c:ident, $n:ident, $spots:ident, $k:ident| $work:expr) => {{
+    ($side:ident, $cap:literal, ($kind:ident, [$($which:literal)?], $begin:ident, |$c:ident, $n:ident, $spots:ident, $k:ident| $work:expr)) => {{
         let $n = $cap * 3 / 4;
         let $spots = Spots::new();
         let $c: $side::$kind<$cap $(, $which)?> = $begin($cap, $n);
@@ -63,39 +79,76 @@ const CUT: &str = "paper 01 has every freed slot hold 0: one memset more, where 
 const TOTAL: &str = "the read of one number, behind a call as all else is, which takes as long at every capacity; Rust's walk at 16 is of twelve entries";
 
 const SAME: &str = "Rust's `==` is the C library's memcmp, which has code for 32-byte registers where the processor has them; an archive for plain x86-64 has 16-byte ones, so twice as many loads. That is the likely reason and was not isolated (decision 39, bench/TRIED.md)";
+pub const BEYOND: &str = "TODO";
+const ENDS_HAND: &str = "TODO";
+const HAND: &str = "TODO";
 
-pub fn rows() -> Vec<Row> {
+// A run of n that is only added up `sums` times, and set to 0 as well `zeros` times.
+fn demanded(n: usize, sums: usize, zeros: usize) -> Side {
+    static mut RUN: Page = Page::of(7);
+    let run = unsafe { &mut (&mut *(&raw mut RUN.slots))[..n] };
+    Box::new(move |k| {
+        let mut came = Came::default();
+        for _ in 0..k {
+            for _ in 0..sums {
+                came.sum += rust::add_up(run);
+            }
+            for _ in 0..zeros {
+                came.sum += rust::add_up_and_zero(run);
+            }
+        }
+        came
+    })
+}
+
+pub fn containers() -> Vec<Row> {
     vec![
-        row!("push_back + pop_front", ENDS, theirs, Ring, [0], wrapped, |r, n, spots, k| ring_queue(r, k)),
-        row!("push_front + pop_back", ENDS, theirs, Ring, [0], wrapped, |r, n, spots, k| ring_queue_back(r, k)),
-        row!("read", READ, theirs, Ring, [0], wrapped, |r, n, spots, k| ring_read(r, n, &spots, k)),
-        row!("insert + remove", INSIDE, theirs, Ring, [0], wrapped, |r, n, spots, k| ring_shift(r, n, &spots, k)),
-        row!("clear + resize", REFILL, theirs, Ring, [0], wrapped, |r, n, spots, k| ring_refill(r, n, k)),
-        row!("append", APPEND, theirs, Rings, [], paired, |p, n, spots, k| pair_append(p, k)),
-        row!("clone", CLONE, theirs, Rings, [], paired, |p, n, spots, k| pair_clone(p, k)),
-        row!(MOST_SAME, "sameness", SAME, theirs, Turned, [], twins, |a, n, spots, k| alike(a, k)),
-        row!(MOST_SAME, "sameness, last entry differs", SAME, theirs, Nearly, [], twins, |a, n, spots, k| alike(a, k)),
-        row!(MOST_SAME, "sameness with a vector", SAME, theirs, Mixed, [], twins, |a, n, spots, k| alike(a, k)),
-        row!("walk by cursor", WALK, theirs, Ring, [0], wrapped, |r, n, spots, k| ring_walk(r, k)),
-        row!(MOST_TOTAL, "total", TOTAL, theirs, Ring, [0], wrapped, |r, n, spots, k| ring_total(r, k)),
-        row!(MOST_SAME, "vector equality", SAME, theirs, Vectors, [], twins, |a, n, spots, k| alike(a, k)),
-        row!("vector push + pop", STACK, theirs, Vector, [], counted, |v, n, spots, k| vector_stack(v, k)),
-        row!("vector read", TEST, theirs, Vector, [], counted, |v, n, spots, k| vector_read(v, n, &spots, k)),
-        row!("vector insert + remove", SHIFT, theirs, Vector, [], counted, |v, n, spots, k| vector_shift(v, n, &spots, k)),
-        row!("vector swap_remove + push", SWAP, theirs, Vector, [], counted, |v, n, spots, k| vector_swap(v, n, &spots, k)),
-        row!("vector extend", EXTEND, theirs, Vector, [], counted, |v, n, spots, k| vector_extend(v, &LENT.slots[..n], k)),
-        row!("vector extend + truncate", CUT, theirs, Vector, [], counted, |v, n, spots, k| vector_extend_truncate(v, n, &LENT.slots[..n / 3], k)),
-        row!(MOST_TOTAL, "vector total", TOTAL, theirs, Vector, [], counted, |v, n, spots, k| vector_total(v, k)),
+        both!("push_back + pop_front", MOST, ENDS, ENDS_HAND, (Ring, [0], wrapped, |r, n, spots, k| ring_queue(r, k))),
+        both!("push_front + pop_back", MOST, ENDS, ENDS_HAND, (Ring, [0], wrapped, |r, n, spots, k| ring_queue_back(r, k))),
+        both!("read", MOST, READ, HAND, (Ring, [0], wrapped, |r, n, spots, k| ring_read(r, n, &spots, k))),
+        both!("insert + remove", MOST, INSIDE, HAND, (Ring, [0], wrapped, |r, n, spots, k| ring_shift(r, n, &spots, k))),
+        both!("clear + resize", MOST, REFILL, HAND, |n| demanded(n, 0, 1), (Ring, [0], wrapped, |r, n, spots, k| ring_refill(r, n, k))),
+        both!("append", MOST, APPEND, HAND, |n| demanded(n, 0, 2), (Rings, [], paired, |p, n, spots, k| pair_append(p, k))),
+        both!("clone", MOST, CLONE, HAND, |n| demanded(n, 1, 0), (Rings, [], paired, |p, n, spots, k| pair_clone(p, k))),
+        both!("sameness", MOST_SAME, SAME, SAME, (Turned, [], twins, |a, n, spots, k| alike(a, k))),
+        both!("sameness, last entry differs", MOST_SAME, SAME, SAME, (Nearly, [], twins, |a, n, spots, k| alike(a, k))),
+        both!("sameness with a vector", MOST_SAME, SAME, SAME, (Mixed, [], twins, |a, n, spots, k| alike(a, k))),
+        both!("walk by cursor", MOST, WALK, HAND, (Ring, [0], wrapped, |r, n, spots, k| ring_walk(r, k))),
+        both!("total", MOST_TOTAL, TOTAL, HAND, (Ring, [0], wrapped, |r, n, spots, k| ring_total(r, k))),
+        both!("vector equality", MOST_SAME, SAME, SAME, (Vectors, [], twins, |a, n, spots, k| alike(a, k))),
+        both!("vector push + pop", MOST, STACK, HAND, (Vector, [], counted, |v, n, spots, k| vector_stack(v, k))),
+        both!("vector read", MOST, TEST, HAND, (Vector, [], counted, |v, n, spots, k| vector_read(v, n, &spots, k))),
+        both!("vector insert + remove", MOST, SHIFT, HAND, (Vector, [], counted, |v, n, spots, k| vector_shift(v, n, &spots, k))),
+        both!("vector swap_remove + push", MOST, SWAP, HAND, (Vector, [], counted, |v, n, spots, k| vector_swap(v, n, &spots, k))),
+        both!("vector extend", MOST, EXTEND, HAND, |n| demanded(n, 1, 0), (Vector, [], counted, |v, n, spots, k| vector_extend(v, &LENT.slots[..n], k))),
+        both!("vector extend + truncate", MOST, CUT, HAND, |n| demanded(n / 3, 1, 1), (Vector, [], counted, |v, n, spots, k| vector_extend_truncate(v, n, &LENT.slots[..n / 3], k))),
+        both!("vector total", MOST_TOTAL, TOTAL, HAND, (Vector, [], counted, |v, n, spots, k| vector_total(v, k))),
+    ]
+}
+
+// Beside the vectors of other crates.
+pub fn vectors() -> Vec<Row> {
+    vec![
         #[cfg(arrayvec)]
-        row!("arrayvec push + pop", STACK, array, Vector, [], counted, |v, n, spots, k| vector_stack(v, k)),
+        beside!("arrayvec push + pop", array, STACK, (Vector, [], counted, |v, n, spots, k| vector_stack(v, k))),
         #[cfg(arrayvec)]
-        row!("arrayvec read", TEST, array, Vector, [], counted, |v, n, spots, k| vector_read(v, n, &spots, k)),
+        beside!("arrayvec read", array, TEST, (Vector, [], counted, |v, n, spots, k| vector_read(v, n, &spots, k))),
         #[cfg(arrayvec)]
-        row!("arrayvec insert + remove", SHIFT, array, Vector, [], counted, |v, n, spots, k| vector_shift(v, n, &spots, k)),
+        beside!("arrayvec insert + remove", array, SHIFT, (Vector, [], counted, |v, n, spots, k| vector_shift(v, n, &spots, k))),
         #[cfg(arrayvec)]
-        row!("arrayvec swap_remove + push", SWAP, array, Vector, [], counted, |v, n, spots, k| vector_swap(v, n, &spots, k)),
+        beside!("arrayvec swap_remove + push", array, SWAP, (Vector, [], counted, |v, n, spots, k| vector_swap(v, n, &spots, k))),
         #[cfg(arrayvec)]
-        row!("arrayvec extend", EXTEND, array, Vector, [], counted, |v, n, spots, k| vector_extend(v, &LENT.slots[..n], k)),
+        beside!("arrayvec extend", array, EXTEND, (Vector, [], counted, |v, n, spots, k| vector_extend(v, &LENT.slots[..n], k))),
+        #[cfg(tinyvec)]
+        beside!("tinyvec push + pop", tiny, STACK, (Vector, [], counted, |v, n, spots, k| vector_stack(v, k))),
+        #[cfg(tinyvec)]
+        beside!("tinyvec read", tiny, TEST, (Vector, [], counted, |v, n, spots, k| vector_read(v, n, &spots, k))),
+        #[cfg(tinyvec)]
+        beside!("tinyvec insert + remove", tiny, SHIFT, (Vector, [], counted, |v, n, spots, k| vector_shift(v, n, &spots, k))),
+        #[cfg(tinyvec)]
+        beside!("tinyvec swap_remove + push", tiny, SWAP, (Vector, [], counted, |v, n, spots, k| vector_swap(v, n, &spots, k))),
+        #[cfg(tinyvec)]
+        beside!("tinyvec extend", tiny, EXTEND, (Vector, [], counted, |v, n, spots, k| vector_extend(v, &LENT.slots[..n], k))),
     ]
 }
 

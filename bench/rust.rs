@@ -132,3 +132,16 @@ pub fn vec_total(v: &Vec<u32>) -> u64 {
 pub fn number(at: &u64) -> u64 {
     *at
 }
+
+// What the rules demand of some calls and Rust's containers don't do: a run that goes in or out is added up, and freed slots are set to 0.
+#[inline(never)]
+pub fn add_up(run: &[u32]) -> u64 {
+    run.iter().map(|&x| x as u64).sum()
+}
+
+#[inline(never)]
+pub fn add_up_and_zero(run: &mut [u32]) -> u64 {
+    let sum = run.iter().map(|&x| x as u64).sum();
+    run.fill(0);
+    sum
+}

@@ -1,7 +1,7 @@
-// What is measured: each piece of work is written once, over what both sides offer, and gives back a number that must come out alike.
+// What is measured: each piece of work is written once, over what all sides offer, and gives back a number that must come out alike.
 const SPOTS: usize = 1024;
 
-// Positions, the same for both sides.
+// Positions, the same for all sides.
 pub struct Spots([u32; SPOTS]);
 
 impl Spots {
@@ -25,7 +25,7 @@ impl Spots {
 // What comes of the calls: the entries or totals that they gave, added up, and what was refused.
 #[derive(Default, PartialEq, Debug)]
 pub struct Came {
-    sum: u64,
+    pub sum: u64,
     refused: u64,
 }
 

@@ -18,7 +18,6 @@ mod work;
 
 use found::{median, Found, Round, OURS, THEIRS};
 use rows::{Row, Side};
-use std::fmt::Write;
 use std::time::Instant;
 use work::Came;
 
@@ -61,10 +60,6 @@ fn measure(row: &Row, at: usize, rounds: usize, times: &mut Vec<Round>) {
     }
 }
 
-fn said(name: &str) -> String {
-    std::env::var(name).unwrap_or_else(|_| "not said".into())
-}
-
 // The rows, measured in passes over all of them.
 fn rows_of(rows: Vec<Row>, rounds: usize) -> Vec<Found> {
     let mut times: Vec<[Vec<Round>; 3]> = rows.iter().map(|_| Default::default()).collect();
@@ -78,25 +73,28 @@ fn rows_of(rows: Vec<Row>, rounds: usize) -> Vec<Found> {
     rows.into_iter().zip(times).map(|(row, times)| Found { row, times }).collect()
 }
 
-// One line a row, printed too.
 fn lines(found: &[Found], line: fn(&Found) -> Vec<String>) -> String {
-    let mut table = String::new();
-    found.iter().flat_map(line).for_each(|line| writeln!(table, "{line}").unwrap());
-    println!("{table}");
-    table
+    found.iter().flat_map(line).collect::<Vec<_>>().join("\n")
 }
 
-fn records(rounds: usize) -> String {
-    let table = records::table(rounds);
-    println!("{table}");
-    table
+// The paper: its text with what was measured, and where.
+fn paper(rounds: usize, measured: &[(&str, &str)]) -> String {
+    let mut paper = include_str!("paper.md").to_string();
+    for (name, value) in measured {
+        paper = paper.replace(name, value);
+    }
+    for name in ["processor", "rustc", "rattle", "built", "plain", "arrayvec", "tinyvec", "csv-core", "libcsv"] {
+        let given = format!("BENCH_{}", name.to_uppercase().replace('-', "_"));
+        paper = paper.replace(&format!("{{{name}}}"), &std::env::var(given).unwrap_or_else(|_| "not said".into()));
+    }
+    paper.replace("{rounds}", &(rounds * PASSES).to_string()).replace("{rounds of records}", &records::rounds_of(rounds).to_string())
 }
 
 fn main() {
     let args: Vec<String> = std::env::args().collect();
     let rounds: usize = args.get(1).and_then(|a| a.parse().ok()).unwrap_or(201);
     if std::env::var("BENCH_ONLY").is_ok_and(|only| only == "records") {
-        records(rounds);
+        println!("{}", records::table(rounds));
         return;
     }
     let (done, refused) = check::agree();
@@ -105,27 +103,12 @@ fn main() {
     let table = lines(&containers, |f| vec![f.line()]);
     let limits = lines(&containers, |f| f.limit().into_iter().collect());
     let others = lines(&vectors, |f| vec![f.line()]);
-    let short = lines(&containers, Found::short) + &lines(&vectors, Found::short);
-    let records = records(rounds);
+    let short = lines(&containers, Found::short) + "\n" + &lines(&vectors, Found::short);
+    println!("{table}\n\n{limits}\n\n{others}\n");
+    let records = records::table(rounds);
+    println!("{records}");
     let Some(file) = args.get(2) else { return };
-    let paper = include_str!("paper.md")
-        .replace("{processor}", &said("BENCH_PROCESSOR"))
-        .replace("{rustc}", &said("BENCH_RUSTC"))
-        .replace("{rattle}", &said("BENCH_RATTLE"))
-        .replace("{built}", &said("BENCH_BUILT"))
-        .replace("{plain}", &said("BENCH_PLAIN"))
-        .replace("{arrayvec}", &said("BENCH_ARRAYVEC"))
-        .replace("{tinyvec}", &said("BENCH_TINYVEC"))
-        .replace("{csv-core}", &said("BENCH_CSV_CORE"))
-        .replace("{libcsv}", &said("BENCH_LIBCSV"))
-        .replace("{rounds}", &(rounds * PASSES).to_string())
-        .replace("{checked}", &(done + refused).to_string())
-        .replace("{refused}", &refused.to_string())
-        .replace("{table}", table.trim_end())
-        .replace("{limits}", limits.trim_end())
-        .replace("{others}", others.trim_end())
-        .replace("{short}", short.trim_end())
-        .replace("{rounds of records}", &records::rounds_of(rounds).to_string())
-        .replace("{records}", &records);
-    std::fs::write(file, paper).expect("the paper cannot be written");
+    let (checked, refused) = ((done + refused).to_string(), refused.to_string());
+    let measured = [("{table}", &*table), ("{limits}", &*limits), ("{others}", &*others), ("{short}", short.trim()), ("{records}", &*records), ("{checked}", &*checked), ("{refused}", &*refused)];
+    std::fs::write(file, paper(rounds, &measured)).expect("the paper cannot be written");
 }

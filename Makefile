@@ -1,11 +1,13 @@
-# Two commands: `make test` is the gate, `make run` shows the programs `import` and `tray` at work. `make compare` and `make bench` hold the calls against Rust's (those on records against Python's), and are no part of the gate.
-.PHONY: test run bench compare
+# Two commands: `make test` is the gate, `make run` shows the programs `import` and `tray` at work. `make compare` and `make bench` hold the calls
+# against Rust's (those on records against Python's), `make firmware` tries the C header. These three are no part of the gate.
+.PHONY: test run bench compare firmware
 
 # First the papers and the layout, then everything is proved from nothing: tools/ci runs rt ci and lets its 'N passed, M failed'
 # through last, once every wrong body was seen refused by itself. After a failure make adds a line on stderr and exits with 2.
 test:
 	@python3 tools/check-layout
 	@python3 tools/check-promises
+	@python3 tools/check-header
 	@python3 tools/check-papers
 	@rt fmt --check
 	@python3 tools/tray-model <crates/tray/stdin | cmp - crates/tray/stdout
@@ -34,3 +36,10 @@ bench:
 MILLIONS ?= 5
 compare:
 	@MILLIONS=$(MILLIONS) oracle/run
+
+# The header as C links it, with cc: examples/firmware.c prints what examples/firmware.out has, and 100,000 random calls through the header leave what
+# the program replay prints. SEED=2 makes other calls. Archives are x86-64; on another processor the same module is compiled for it (bench/native).
+SEED ?= 1
+firmware:
+	@examples/firmware-run
+	@ARCHIVE=target/firmware/libtumbrelice.a oracle/calls-run $(SEED)

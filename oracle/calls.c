@@ -558,6 +558,8 @@ static uint64_t some_count(void)
 static uint64_t some_bytes(void)
 {
     uint64_t need = TUM_TEXT_BYTES(first.capacity);
+    if (need > TEXT - 9)
+        fail("a stored text is longer than it can be");
     switch (below(6)) {
     case 0: return need - 1;
     case 1: return below(need);
@@ -714,6 +716,18 @@ static void names(void)
     MUST(tumrecord_judge(long_text, LONG).number == TUM_LONG_TEXT);
 }
 
+/* The largest numbers that a word has to hold. */
+static void largest(void)
+{
+    tum_vector v;
+    MUST(tumvec_from_elem(&v, first.slots, TUM_MOST_SLOTS, TUM_MOST_SLOTS, UINT32_MAX).number == TUM_DONE);
+    MUST(tumvec_total(&v) == (uint64_t)TUM_MOST_SLOTS * UINT32_MAX);
+    MUST(tumvec_as_slice(&v).count == TUM_MOST_SLOTS);
+    MUST(tumvec_read(&v, TUM_MOST_SLOTS - 1).slot == TUM_MOST_SLOTS - 1);
+    MUST(tumvec_remove(&v, 0).moves == TUM_MOST_SLOTS - 1);
+    MUST(tumvec_remove(&v, 0).value == UINT32_MAX);
+}
+
 /* ---- How many of each kind ---- */
 
 static void report(void)
@@ -745,6 +759,7 @@ int main(int argc, char **argv)
     said_size = 0;
     records(count / 20);
     names();
+    largest();
     report();
     printf("%" PRIu64 " calls of %d kinds, all as replay prints them; %" PRIu64 " of 3 kinds on records, all as the archive's functions\n", count, (int)KINDS,
            3 * (count / 20));

@@ -2,15 +2,17 @@
    docs/RULES.md has the rules in full; the words here are the ones used there. Link libtumbrelice.a, which `rt staticlib tumbrelice` makes.
 
    Where state lives. The archive keeps nothing between calls, no number and no pointer. All there is of a container is the run of slots that you
-   lend, at most 4,096 of them, and the struct below, which holds the state that the last call gave back. Write to the slots by these calls only, or
-   through a part that is lent for writing. A struct that is copied is no second container: both copies stand on the same slots.
+   lend, at most 4,096 of them, and the struct below, which holds the state that the last call gave back. It begins with a making (tumring_new and its
+   like), since a struct that is only zeroed has no slots. Write to the slots by these calls only, or through a part that is lent for writing. A struct
+   that is copied is no second container: both copies stand on the same slots.
 
-   Interrupts. Since nothing is kept, a call may be made from an interrupt. But no two calls may use one container at once: an interrupt may not use
-   the container whose call it interrupts. Guard a container that both use, for the whole call.
+   Interrupts. Since nothing is kept, a call may be made from an interrupt. But no two calls may use one container, cursor or text at once: an interrupt
+   may not use the container whose call it interrupts. Guard a container that both use, for the whole call.
 
    Pointers. They must point to as many slots, or bytes, as their count says, be aligned as C aligns their type and not be NULL, even where the count
    is 0. Slots, states, cursors and texts of one call must not overlap, so the two containers of a call are two different ones. No call can test that.
-   Everything else is tested: whatever the numbers are, a call ends with an answer, and one that is refused changes nothing.
+   Everything else is tested: whatever the numbers are, a call ends with an answer, and one that is refused changes nothing (a refused making leaves 0
+   in every number of the state, a refused tumring_iter or its like in the cursor).
 
    Answers. Take an answer apart, and look at its number first. Don't compare a word of the archive as a whole: where no slot is reported it has 65,535
    for the slot, so that one that is done is seldom 0. */
@@ -203,7 +205,7 @@ static inline uint64_t tumvec_total(const tum_vector *v) { return v->state[1]; }
    [k..] the rest, and + joins two lists. Every call on a container is refused first with TUM_INVALID if that one is invalid, then with
    TUM_INVALID_SECOND if t is; the lines don't repeat it. */
 
-/* Makings of a ring. The struct takes the slots and their number; refused, it has head, length and total 0. */
+/* Makings of a ring. The struct takes the slots and their number, whether refused or not. */
 
 /* An empty ring on these slots; no slot changes. Refused: TUM_INVALID if there are more than 4,096 slots. */
 static inline tum_answer tumring_new(tum_ring *ring, uint32_t *slots, size_t capacity)

@@ -17,7 +17,8 @@ use Rattle.tumbrelice.specs.Heard.{Held, HearsAt, HearsInto, vectorOf, c
 use Rattle.tumbrelice.specs.HeardText.{HearsStored}
 use Rattle.tumbrelice.specs.HeardPart.{partIn}
 use Rattle.tumbrelice.proofs.Once.{one-word, one-held}
-use Rattle.tumbrelice.proofs.walks as walks
+use Rattle.tumbrelice.proofs.ring_walks as ring-walks
+use Rattle.tumbrelice.proofs.vector_walks as vector-walks
 use Rattle.tumbrelice.proofs.parts as parts
 use Rattle.tumbrelice.proofs.forms as forms
 
@@ -69,40 +70,40 @@ module _ (κs : Lfts 2) where
   tum-vector-deref-mut-once a r r′ e e′ p q = one-part r r′ (p ∙ sym q)
 
 module _ (κs : Lfts 3) where
-  pub tum-ring-iter-once : Twice walks.tum_ring_iter.ended κs (walks.tum_ring_iter.Reads.Learnt κs) (λ r e r′ e′. (r ≡ r′) × (cursorOf (now (e .1 .1 .0)) ≡ cursorOf (now (e′ .1 .1 .0))))
+  pub tum-ring-iter-once : Twice ring-walks.tum_ring_iter.ended κs (ring-walks.tum_ring_iter.Reads.Learnt κs) (λ r e r′ e′. (r ≡ r′) × (cursorOf (now (e .1 .1 .0)) ≡ cursorOf (now (e′ .1 .1 .0))))
   tum-ring-iter-once a r r′ e e′ p q = one-at r r′ _ _ p q
 
-  pub tum-ring-into-iter-once : Twice walks.tum_ring_into_iter.ended κs (walks.tum_ring_into_iter.Reads.Learnt κs) (λ r e r′ e′. (r ≡ r′) × (cursorOf (now (e .1 .1 .0)) ≡ cursorOf (now (e′ .1 .1 .0))))
+  pub tum-ring-into-iter-once : Twice ring-walks.tum_ring_into_iter.ended κs (ring-walks.tum_ring_into_iter.Reads.Learnt κs) (λ r e r′ e′. (r ≡ r′) × (cursorOf (now (e .1 .1 .0)) ≡ cursorOf (now (e′ .1 .1 .0))))
   tum-ring-into-iter-once a r r′ e e′ p q = one-at r r′ _ _ p q
 
-  pub tum-ring-step-front-once : Twice walks.tum_ring_step_front.ended κs (walks.tum_ring_step_front.Reads.Learnt κs) (λ r e r′ e′. (r ≡ r′) × (cursorOf (now (e .1 .1 .0)) ≡ cursorOf (now (e′ .1 .1 .0))))
+  pub tum-ring-step-front-once : Twice ring-walks.tum_ring_step_front.ended κs (ring-walks.tum_ring_step_front.Reads.Learnt κs) (λ r e r′ e′. (r ≡ r′) × (cursorOf (now (e .1 .1 .0)) ≡ cursorOf (now (e′ .1 .1 .0))))
   tum-ring-step-front-once a r r′ e e′ p q = one-at r r′ _ _ p q
 
-  pub tum-ring-step-back-once : Twice walks.tum_ring_step_back.ended κs (walks.tum_ring_step_back.Reads.Learnt κs) (λ r e r′ e′. (r ≡ r′) × (cursorOf (now (e .1 .1 .0)) ≡ cursorOf (now (e′ .1 .1 .0))))
+  pub tum-ring-step-back-once : Twice ring-walks.tum_ring_step_back.ended κs (ring-walks.tum_ring_step_back.Reads.Learnt κs) (λ r e r′ e′. (r ≡ r′) × (cursorOf (now (e .1 .1 .0)) ≡ cursorOf (now (e′ .1 .1 .0))))
   tum-ring-step-back-once a r r′ e e′ p q = one-at r r′ _ _ p q
 
-  pub tum-ring-peek-front-once : Twice walks.tum_ring_peek_front.ended κs (walks.tum_ring_peek_front.Reads.Learnt κs) (λ r e r′ e′. r ≡ r′)
+  pub tum-ring-peek-front-once : Twice ring-walks.tum_ring_peek_front.ended κs (ring-walks.tum_ring_peek_front.Reads.Learnt κs) (λ r e r′ e′. r ≡ r′)
   tum-ring-peek-front-once a r r′ e e′ p q = one-at r r′ _ _ p q .0
 
-  pub tum-ring-peek-back-once : Twice walks.tum_ring_peek_back.ended κs (walks.tum_ring_peek_back.Reads.Learnt κs) (λ r e r′ e′. r ≡ r′)
+  pub tum-ring-peek-back-once : Twice ring-walks.tum_ring_peek_back.ended κs (ring-walks.tum_ring_peek_back.Reads.Learnt κs) (λ r e r′ e′. r ≡ r′)
   tum-ring-peek-back-once a r r′ e e′ p q = one-at r r′ _ _ p q .0
 
-  pub tum-vector-iter-once : Twice walks.tum_vector_iter.ended κs (walks.tum_vector_iter.Reads.Learnt κs) (λ r e r′ e′. (r ≡ r′) × (cursorOf (now (e .1 .1 .0)) ≡ cursorOf (now (e′ .1 .1 .0))))
+  pub tum-vector-iter-once : Twice vector-walks.tum_vector_iter.ended κs (vector-walks.tum_vector_iter.Reads.Learnt κs) (λ r e r′ e′. (r ≡ r′) × (cursorOf (now (e .1 .1 .0)) ≡ cursorOf (now (e′ .1 .1 .0))))
   tum-vector-iter-once a r r′ e e′ p q = one-at r r′ _ _ p q
 
-  pub tum-vector-into-iter-once : Twice walks.tum_vector_into_iter.ended κs (walks.tum_vector_into_iter.Reads.Learnt κs) (λ r e r′ e′. (r ≡ r′) × (cursorOf (now (e .1 .1 .0)) ≡ cursorOf (now (e′ .1 .1 .0))))
+  pub tum-vector-into-iter-once : Twice vector-walks.tum_vector_into_iter.ended κs (vector-walks.tum_vector_into_iter.Reads.Learnt κs) (λ r e r′ e′. (r ≡ r′) × (cursorOf (now (e .1 .1 .0)) ≡ cursorOf (now (e′ .1 .1 .0))))
   tum-vector-into-iter-once a r r′ e e′ p q = one-at r r′ _ _ p q
 
-  pub tum-vector-step-front-once : Twice walks.tum_vector_step_front.ended κs (walks.tum_vector_step_front.Reads.Learnt κs) (λ r e r′ e′. (r ≡ r′) × (cursorOf (now (e .1 .1 .0)) ≡ cursorOf (now (e′ .1 .1 .0))))
+  pub tum-vector-step-front-once : Twice vector-walks.tum_vector_step_front.ended κs (vector-walks.tum_vector_step_front.Reads.Learnt κs) (λ r e r′ e′. (r ≡ r′) × (cursorOf (now (e .1 .1 .0)) ≡ cursorOf (now (e′ .1 .1 .0))))
   tum-vector-step-front-once a r r′ e e′ p q = one-at r r′ _ _ p q
 
-  pub tum-vector-step-back-once : Twice walks.tum_vector_step_back.ended κs (walks.tum_vector_step_back.Reads.Learnt κs) (λ r e r′ e′. (r ≡ r′) × (cursorOf (now (e .1 .1 .0)) ≡ cursorOf (now (e′ .1 .1 .0))))
+  pub tum-vector-step-back-once : Twice vector-walks.tum_vector_step_back.ended κs (vector-walks.tum_vector_step_back.Reads.Learnt κs) (λ r e r′ e′. (r ≡ r′) × (cursorOf (now (e .1 .1 .0)) ≡ cursorOf (now (e′ .1 .1 .0))))
   tum-vector-step-back-once a r r′ e e′ p q = one-at r r′ _ _ p q
 
-  pub tum-vector-peek-front-once : Twice walks.tum_vector_peek_front.ended κs (walks.tum_vector_peek_front.Reads.Learnt κs) (λ r e r′ e′. r ≡ r′)
+  pub tum-vector-peek-front-once : Twice vector-walks.tum_vector_peek_front.ended κs (vector-walks.tum_vector_peek_front.Reads.Learnt κs) (λ r e r′ e′. r ≡ r′)
   tum-vector-peek-front-once a r r′ e e′ p q = one-at r r′ _ _ p q .0
 
-  pub tum-vector-peek-back-once : Twice walks.tum_vector_peek_back.ended κs (walks.tum_vector_peek_back.Reads.Learnt κs) (λ r e r′ e′. r ≡ r′)
+  pub tum-vector-peek-back-once : Twice vector-walks.tum_vector_peek_back.ended κs (vector-walks.tum_vector_peek_back.Reads.Learnt κs) (λ r e r′ e′. r ≡ r′)
   tum-vector-peek-back-once a r r′ e e′ p q = one-at r r′ _ _ p q .0
 
   pub tum-ring-text-once : Twice forms.tum_ring_text.ended κs (forms.tum_ring_text.Reads.Learnt κs) (λ r e r′ e′. (r ≡ r′) × (now (e .1 .1 .0) ≡ now (e′ .1 .1 .0)))
@@ -112,8 +113,8 @@ module _ (κs : Lfts 3) where
   tum-vector-text-once a r r′ e e′ p q = one-stored r r′ _ _ p q
 
 module _ (κs : Lfts 5) where
-  pub tum-ring-from-iter-once : Twice walks.tum_ring_from_iter.ended κs (walks.tum_ring_from_iter.Reads.Learnt κs) (λ r e r′ e′. (r ≡ r′) × (cursorOf (now (e .1 .1 .0)) ≡ cursorOf (now (e′ .1 .1 .0))) × (vectorOf (now (e .1 .1 .1 .1 .0)) (now (e .1 .1 .1 .0)) ≡ vectorOf (now (e′ .1 .1 .1 .1 .0)) (now (e′ .1 .1 .1 .0))))
+  pub tum-ring-from-iter-once : Twice ring-walks.tum_ring_from_iter.ended κs (ring-walks.tum_ring_from_iter.Reads.Learnt κs) (λ r e r′ e′. (r ≡ r′) × (cursorOf (now (e .1 .1 .0)) ≡ cursorOf (now (e′ .1 .1 .0))) × (vectorOf (now (e .1 .1 .1 .1 .0)) (now (e .1 .1 .1 .0)) ≡ vectorOf (now (e′ .1 .1 .1 .1 .0)) (now (e′ .1 .1 .1 .0))))
   tum-ring-from-iter-once a r r′ e e′ p q = one-into r r′ _ _ _ _ p q
 
-  pub tum-vector-from-iter-once : Twice walks.tum_vector_from_iter.ended κs (walks.tum_vector_from_iter.Reads.Learnt κs) (λ r e r′ e′. (r ≡ r′) × (cursorOf (now (e .1 .1 .0)) ≡ cursorOf (now (e′ .1 .1 .0))) × (vectorOf (now (e .1 .1 .1 .1 .0)) (now (e .1 .1 .1 .0)) ≡ vectorOf (now (e′ .1 .1 .1 .1 .0)) (now (e′ .1 .1 .1 .0))))
+  pub tum-vector-from-iter-once : Twice vector-walks.tum_vector_from_iter.ended κs (vector-walks.tum_vector_from_iter.Reads.Learnt κs) (λ r e r′ e′. (r ≡ r′) × (cursorOf (now (e .1 .1 .0)) ≡ cursorOf (now (e′ .1 .1 .0))) × (vectorOf (now (e .1 .1 .1 .1 .0)) (now (e .1 .1 .1 .0)) ≡ vectorOf (now (e′ .1 .1 .1 .1 .0)) (now (e′ .1 .1 .1 .0))))
   tum-vector-from-iter-once a r r′ e e′ p q = one-into r r′ _ _ _ _ p q

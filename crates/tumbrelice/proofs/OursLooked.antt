@@ -18,7 +18,8 @@ use Rattle.stored.specs.Storing.{storing}
 use Rattle.stored.proofs.Ours.{storing-kept}
 use Rattle.tumbrelice.specs.Heard.{heardAt, heard, heardInto, ringTray, vectorTray, cursorOf}
 use Rattle.tumbrelice.specs.HeardPart.{partIn}
-use Rattle.tumbrelice.proofs.walks as walks
+use Rattle.tumbrelice.proofs.ring_walks as ring-walks
+use Rattle.tumbrelice.proofs.vector_walks as vector-walks
 use Rattle.tumbrelice.proofs.parts as parts
 use Rattle.tumbrelice.proofs.forms as forms
 
@@ -35,63 +36,63 @@ module _ (w : World) (i : ℕ) (κs : Lfts 3) where
   tum-vector-text-ours a r e is learnt = ours-called w i vector _ _ _ (storing-kept _) refl is (ap (λ (w : Written). w .outcome) (learnt .row))
 
 module _ (w : World) (i : ℕ) (κs : Lfts 3) where
-  pub tum-ring-iter-ours : (a : ArgsD walks.tum_ring_iter.signature κs) (r : ResD walks.tum_ring_iter.signature κs) (e : AtExit walks.tum_ring_iter.ended κs)
-      → Is w i ring (ringTray (now (a .1 .0)) (now (a .0))) → walks.tum_ring_iter.Reads.Learnt κs a r e
+  pub tum-ring-iter-ours : (a : ArgsD ring-walks.tum_ring_iter.signature κs) (r : ResD ring-walks.tum_ring_iter.signature κs) (e : AtExit ring-walks.tum_ring_iter.ended κs)
+      → Is w i ring (ringTray (now (a .1 .0)) (now (a .0))) → ring-walks.tum_ring_iter.Reads.Learnt κs a r e
       → Ours w (on i (look iter) (heardAt r (ringTray (now (a .1 .0)) (now (a .0))) (cursorOf (now (e .1 .1 .0)))))
   tum-ring-iter-ours a r e is learnt = ours-on w i _ _ _ _ refl is (learnt .row)
 
-  pub tum-ring-into-iter-ours : (a : ArgsD walks.tum_ring_into_iter.signature κs) (r : ResD walks.tum_ring_into_iter.signature κs) (e : AtExit walks.tum_ring_into_iter.ended κs)
-      → Is w i ring (ringTray (now (a .1 .0)) (now (a .0))) → walks.tum_ring_into_iter.Reads.Learnt κs a r e
+  pub tum-ring-into-iter-ours : (a : ArgsD ring-walks.tum_ring_into_iter.signature κs) (r : ResD ring-walks.tum_ring_into_iter.signature κs) (e : AtExit ring-walks.tum_ring_into_iter.ended κs)
+      → Is w i ring (ringTray (now (a .1 .0)) (now (a .0))) → ring-walks.tum_ring_into_iter.Reads.Learnt κs a r e
       → Ours w (on i (look intoIter) (heardAt r (ringTray (now (a .1 .0)) (now (a .0))) (cursorOf (now (e .1 .1 .0)))))
   tum-ring-into-iter-ours a r e is learnt = ours-on w i _ _ _ _ refl is (learnt .row)
 
-  pub tum-ring-step-front-ours : (a : ArgsD walks.tum_ring_step_front.signature κs) (r : ResD walks.tum_ring_step_front.signature κs) (e : AtExit walks.tum_ring_step_front.ended κs)
-      → Is w i ring (ringTray (now (a .1 .0)) (now (a .0))) → walks.tum_ring_step_front.Reads.Learnt κs a r e
+  pub tum-ring-step-front-ours : (a : ArgsD ring-walks.tum_ring_step_front.signature κs) (r : ResD ring-walks.tum_ring_step_front.signature κs) (e : AtExit ring-walks.tum_ring_step_front.ended κs)
+      → Is w i ring (ringTray (now (a .1 .0)) (now (a .0))) → ring-walks.tum_ring_step_front.Reads.Learnt κs a r e
       → Ours w (on i (look (stepFront (cursorOf (now (a .1 .1 .0))))) (heardAt r (ringTray (now (a .1 .0)) (now (a .0))) (cursorOf (now (e .1 .1 .0)))))
   tum-ring-step-front-ours a r e is learnt = ours-on w i _ _ _ _ refl is (learnt .row)
 
-  pub tum-ring-step-back-ours : (a : ArgsD walks.tum_ring_step_back.signature κs) (r : ResD walks.tum_ring_step_back.signature κs) (e : AtExit walks.tum_ring_step_back.ended κs)
-      → Is w i ring (ringTray (now (a .1 .0)) (now (a .0))) → walks.tum_ring_step_back.Reads.Learnt κs a r e
+  pub tum-ring-step-back-ours : (a : ArgsD ring-walks.tum_ring_step_back.signature κs) (r : ResD ring-walks.tum_ring_step_back.signature κs) (e : AtExit ring-walks.tum_ring_step_back.ended κs)
+      → Is w i ring (ringTray (now (a .1 .0)) (now (a .0))) → ring-walks.tum_ring_step_back.Reads.Learnt κs a r e
       → Ours w (on i (look (stepBack (cursorOf (now (a .1 .1 .0))))) (heardAt r (ringTray (now (a .1 .0)) (now (a .0))) (cursorOf (now (e .1 .1 .0)))))
   tum-ring-step-back-ours a r e is learnt = ours-on w i _ _ _ _ refl is (learnt .row)
 
-  pub tum-ring-peek-front-ours : (a : ArgsD walks.tum_ring_peek_front.signature κs) (r : ResD walks.tum_ring_peek_front.signature κs) (e : AtExit walks.tum_ring_peek_front.ended κs)
-      → Is w i ring (ringTray (now (a .1 .0)) (now (a .0))) → walks.tum_ring_peek_front.Reads.Learnt κs a r e
+  pub tum-ring-peek-front-ours : (a : ArgsD ring-walks.tum_ring_peek_front.signature κs) (r : ResD ring-walks.tum_ring_peek_front.signature κs) (e : AtExit ring-walks.tum_ring_peek_front.ended κs)
+      → Is w i ring (ringTray (now (a .1 .0)) (now (a .0))) → ring-walks.tum_ring_peek_front.Reads.Learnt κs a r e
       → Ours w (on i (look (peekFront (cursorOf (now (a .1 .1 .0))) (a .1 .1 .1 .0))) (heardAt r (ringTray (now (a .1 .0)) (now (a .0))) (cursorOf (now (a .1 .1 .0)))))
   tum-ring-peek-front-ours a r e is learnt = ours-on w i _ _ _ _ refl is (learnt .row)
 
-  pub tum-ring-peek-back-ours : (a : ArgsD walks.tum_ring_peek_back.signature κs) (r : ResD walks.tum_ring_peek_back.signature κs) (e : AtExit walks.tum_ring_peek_back.ended κs)
-      → Is w i ring (ringTray (now (a .1 .0)) (now (a .0))) → walks.tum_ring_peek_back.Reads.Learnt κs a r e
+  pub tum-ring-peek-back-ours : (a : ArgsD ring-walks.tum_ring_peek_back.signature κs) (r : ResD ring-walks.tum_ring_peek_back.signature κs) (e : AtExit ring-walks.tum_ring_peek_back.ended κs)
+      → Is w i ring (ringTray (now (a .1 .0)) (now (a .0))) → ring-walks.tum_ring_peek_back.Reads.Learnt κs a r e
       → Ours w (on i (look (peekBack (cursorOf (now (a .1 .1 .0))) (a .1 .1 .1 .0))) (heardAt r (ringTray (now (a .1 .0)) (now (a .0))) (cursorOf (now (a .1 .1 .0)))))
   tum-ring-peek-back-ours a r e is learnt = ours-on w i _ _ _ _ refl is (learnt .row)
 
-  pub tum-vector-iter-ours : (a : ArgsD walks.tum_vector_iter.signature κs) (r : ResD walks.tum_vector_iter.signature κs) (e : AtExit walks.tum_vector_iter.ended κs)
-      → Is w i vector (vectorTray (now (a .1 .0)) (now (a .0))) → walks.tum_vector_iter.Reads.Learnt κs a r e
+  pub tum-vector-iter-ours : (a : ArgsD vector-walks.tum_vector_iter.signature κs) (r : ResD vector-walks.tum_vector_iter.signature κs) (e : AtExit vector-walks.tum_vector_iter.ended κs)
+      → Is w i vector (vectorTray (now (a .1 .0)) (now (a .0))) → vector-walks.tum_vector_iter.Reads.Learnt κs a r e
       → Ours w (on i (look iter) (heardAt r (vectorTray (now (a .1 .0)) (now (a .0))) (cursorOf (now (e .1 .1 .0)))))
   tum-vector-iter-ours a r e is learnt = ours-on w i _ _ _ _ refl is (learnt .row)
 
-  pub tum-vector-into-iter-ours : (a : ArgsD walks.tum_vector_into_iter.signature κs) (r : ResD walks.tum_vector_into_iter.signature κs) (e : AtExit walks.tum_vector_into_iter.ended κs)
-      → Is w i vector (vectorTray (now (a .1 .0)) (now (a .0))) → walks.tum_vector_into_iter.Reads.Learnt κs a r e
+  pub tum-vector-into-iter-ours : (a : ArgsD vector-walks.tum_vector_into_iter.signature κs) (r : ResD vector-walks.tum_vector_into_iter.signature κs) (e : AtExit vector-walks.tum_vector_into_iter.ended κs)
+      → Is w i vector (vectorTray (now (a .1 .0)) (now (a .0))) → vector-walks.tum_vector_into_iter.Reads.Learnt κs a r e
       → Ours w (on i (look intoIter) (heardAt r (vectorTray (now (a .1 .0)) (now (a .0))) (cursorOf (now (e .1 .1 .0)))))
   tum-vector-into-iter-ours a r e is learnt = ours-on w i _ _ _ _ refl is (learnt .row)
 
-  pub tum-vector-step-front-ours : (a : ArgsD walks.tum_vector_step_front.signature κs) (r : ResD walks.tum_vector_step_front.signature κs) (e : AtExit walks.tum_vector_step_front.ended κs)
-      → Is w i vector (vectorTray (now (a .1 .0)) (now (a .0))) → walks.tum_vector_step_front.Reads.Learnt κs a r e
+  pub tum-vector-step-front-ours : (a : ArgsD vector-walks.tum_vector_step_front.signature κs) (r : ResD vector-walks.tum_vector_step_front.signature κs) (e : AtExit vector-walks.tum_vector_step_front.ended κs)
+      → Is w i vector (vectorTray (now (a .1 .0)) (now (a .0))) → vector-walks.tum_vector_step_front.Reads.Learnt κs a r e
       → Ours w (on i (look (stepFront (cursorOf (now (a .1 .1 .0))))) (heardAt r (vectorTray (now (a .1 .0)) (now (a .0))) (cursorOf (now (e .1 .1 .0)))))
   tum-vector-step-front-ours a r e is learnt = ours-on w i _ _ _ _ refl is (learnt .row)
 
-  pub tum-vector-step-back-ours : (a : ArgsD walks.tum_vector_step_back.signature κs) (r : ResD walks.tum_vector_step_back.signature κs) (e : AtExit walks.tum_vector_step_back.ended κs)
-      → Is w i vector (vectorTray (now (a .1 .0)) (now (a .0))) → walks.tum_vector_step_back.Reads.Learnt κs a r e
+  pub tum-vector-step-back-ours : (a : ArgsD vector-walks.tum_vector_step_back.signature κs) (r : ResD vector-walks.tum_vector_step_back.signature κs) (e : AtExit vector-walks.tum_vector_step_back.ended κs)
+      → Is w i vector (vectorTray (now (a .1 .0)) (now (a .0))) → vector-walks.tum_vector_step_back.Reads.Learnt κs a r e
       → Ours w (on i (look (stepBack (cursorOf (now (a .1 .1 .0))))) (heardAt r (vectorTray (now (a .1 .0)) (now (a .0))) (cursorOf (now (e .1 .1 .0)))))
   tum-vector-step-back-ours a r e is learnt = ours-on w i _ _ _ _ refl is (learnt .row)
 
-  pub tum-vector-peek-front-ours : (a : ArgsD walks.tum_vector_peek_front.signature κs) (r : ResD walks.tum_vector_peek_front.signature κs) (e : AtExit walks.tum_vector_peek_front.ended κs)
-      → Is w i vector (vectorTray (now (a .1 .0)) (now (a .0))) → walks.tum_vector_peek_front.Reads.Learnt κs a r e
+  pub tum-vector-peek-front-ours : (a : ArgsD vector-walks.tum_vector_peek_front.signature κs) (r : ResD vector-walks.tum_vector_peek_front.signature κs) (e : AtExit vector-walks.tum_vector_peek_front.ended κs)
+      → Is w i vector (vectorTray (now (a .1 .0)) (now (a .0))) → vector-walks.tum_vector_peek_front.Reads.Learnt κs a r e
       → Ours w (on i (look (peekFront (cursorOf (now (a .1 .1 .0))) (a .1 .1 .1 .0))) (heardAt r (vectorTray (now (a .1 .0)) (now (a .0))) (cursorOf (now (a .1 .1 .0)))))
   tum-vector-peek-front-ours a r e is learnt = ours-on w i _ _ _ _ refl is (learnt .row)
 
-  pub tum-vector-peek-back-ours : (a : ArgsD walks.tum_vector_peek_back.signature κs) (r : ResD walks.tum_vector_peek_back.signature κs) (e : AtExit walks.tum_vector_peek_back.ended κs)
-      → Is w i vector (vectorTray (now (a .1 .0)) (now (a .0))) → walks.tum_vector_peek_back.Reads.Learnt κs a r e
+  pub tum-vector-peek-back-ours : (a : ArgsD vector-walks.tum_vector_peek_back.signature κs) (r : ResD vector-walks.tum_vector_peek_back.signature κs) (e : AtExit vector-walks.tum_vector_peek_back.ended κs)
+      → Is w i vector (vectorTray (now (a .1 .0)) (now (a .0))) → vector-walks.tum_vector_peek_back.Reads.Learnt κs a r e
       → Ours w (on i (look (peekBack (cursorOf (now (a .1 .1 .0))) (a .1 .1 .1 .0))) (heardAt r (vectorTray (now (a .1 .0)) (now (a .0))) (cursorOf (now (a .1 .1 .0)))))
   tum-vector-peek-back-ours a r e is learnt = ours-on w i _ _ _ _ refl is (learnt .row)
 
@@ -127,12 +128,12 @@ module _ (w : World) (i : ℕ) (κs : Lfts 2) where
   tum-vector-deref-mut-ours a r e is learnt = reads lendsAll w i _ _ is (ap (λ p. inPart p (now (a .0))) learnt)
 
 module _ (w : World) (i j : ℕ) (κs : Lfts 5) where
-  pub tum-ring-from-iter-ours : (a : ArgsD walks.tum_ring_from_iter.signature κs) (r : ResD walks.tum_ring_from_iter.signature κs) (e : AtExit walks.tum_ring_from_iter.ended κs)
-      → Are w i j ring vector (ringTray (now (a .1 .0)) (now (a .0))) (vectorTray (now (a .1 .1 .1 .1 .0)) (now (a .1 .1 .1 .0))) → walks.tum_ring_from_iter.Reads.Learnt κs a r e
+  pub tum-ring-from-iter-ours : (a : ArgsD ring-walks.tum_ring_from_iter.signature κs) (r : ResD ring-walks.tum_ring_from_iter.signature κs) (e : AtExit ring-walks.tum_ring_from_iter.ended κs)
+      → Are w i j ring vector (ringTray (now (a .1 .0)) (now (a .0))) (vectorTray (now (a .1 .1 .1 .1 .0)) (now (a .1 .1 .1 .0))) → ring-walks.tum_ring_from_iter.Reads.Learnt κs a r e
       → Ours w (onTwo i j (fromIter (cursorOf (now (a .1 .1 .0)))) (heardInto r (ringTray (now (a .1 .0)) (now (a .0))) (vectorTray (now (e .1 .1 .1 .1 .0)) (now (e .1 .1 .1 .0))) (cursorOf (now (e .1 .1 .0)))))
   tum-ring-from-iter-ours a r e are learnt = ours-on-two w i j _ _ _ _ _ _ refl are (learnt .row)
 
-  pub tum-vector-from-iter-ours : (a : ArgsD walks.tum_vector_from_iter.signature κs) (r : ResD walks.tum_vector_from_iter.signature κs) (e : AtExit walks.tum_vector_from_iter.ended κs)
-      → Are w i j vector vector (vectorTray (now (a .1 .0)) (now (a .0))) (vectorTray (now (a .1 .1 .1 .1 .0)) (now (a .1 .1 .1 .0))) → walks.tum_vector_from_iter.Reads.Learnt κs a r e
+  pub tum-vector-from-iter-ours : (a : ArgsD vector-walks.tum_vector_from_iter.signature κs) (r : ResD vector-walks.tum_vector_from_iter.signature κs) (e : AtExit vector-walks.tum_vector_from_iter.ended κs)
+      → Are w i j vector vector (vectorTray (now (a .1 .0)) (now (a .0))) (vectorTray (now (a .1 .1 .1 .1 .0)) (now (a .1 .1 .1 .0))) → vector-walks.tum_vector_from_iter.Reads.Learnt κs a r e
       → Ours w (onTwo i j (fromIter (cursorOf (now (a .1 .1 .0)))) (heardInto r (vectorTray (now (a .1 .0)) (now (a .0))) (vectorTray (now (e .1 .1 .1 .1 .0)) (now (e .1 .1 .1 .0))) (cursorOf (now (e .1 .1 .0)))))
   tum-vector-from-iter-ours a r e are learnt = ours-on-two w i j _ _ _ _ _ _ refl are (learnt .row)

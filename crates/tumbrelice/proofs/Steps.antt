@@ -5,7 +5,7 @@ use Prim.Native.Nat.{ℕ, _<_}
 use native.Mathlib.Omega.{arith}
 use Rattle.slots.specs.Layout.{Kind, ring, vector}
 use Rattle.table.specs.Tray.{Tray, list, Cursor}
-use Rattle.table.specs.Calls.{Look, look}
+use Rattle.table.specs.Calls.{Look, look, iter, intoIter}
 use Rattle.table.specs.Table.{after}
 use Rattle.table.specs.Does.{Outcome, refused, done, does, rowOf, refusalsOf}
 use Rattle.table.specs.Reported.{noSlot}
@@ -76,6 +76,11 @@ ring-began q st s cu′ r a word er e ec w = began ring q (ringOf st s) cu′ a 
 pub vector-began : (q : Look) (st s cu′ : List ℕ) (v : Vector) (a : Begun) (word : ℕ) → v ≡ vectorIn st → Starts vector (look q) (vectors.tray v s) a → cu′ ≡ cursorOut (a .cursor)
     → Worded (a .number) 0 0 (a .slot) word → HearsAt vector q (vectorOf st s) word (cursorOf cu′)
 vector-began q st s cu′ v a word ev e ec w = began vector q (vectorOf st s) cu′ a word (rw ev at e) ec w
+
+-- into_iter is iter by another name
+pub begins-into : (k : Kind) (b : Held) (word : ℕ) (u : Cursor) → HearsAt k iter b word u → HearsAt k intoIter b word u
+unfolding does
+begins-into k b word u e = record { row = e .row; slot = e .slot }
 
 -- a step: where it is refused the cursor is the one given
 step-leaves : (k : Kind) (q : Look) (t : Tray) (cu : List ℕ) (s : Step) → rowOf k (look q) t .given ≡ cursorOf cu → seen s t ≡ does k (look q) t → cursorOf (steppedTo s cu) ≡ steps.cursorIn s

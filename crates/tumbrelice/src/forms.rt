@@ -11,8 +11,8 @@ pub extern "C" fn tum_ring_text(slots: &[u32], state: &[u64; 3], text: &mut [u8]
     ensures { λ r. ⌜ HearsStored ring (ringOf (now (state .entry)) (now (slots .entry))) (now (text .entry)) r (now (text .exit)) ⌝ }
 {
     let r = ring_in(state);
-    let a = stored::ring_text(r, slots, text);
-    word(a.number, a.value, a.moves, a.slot)
+    let told = stored::ring_text(r, slots, text);
+    word(told.number, told.value, told.moves, told.slot)
 }
 
 #[no_mangle]

@@ -7,9 +7,11 @@ pub mod vectors; // vectors.rt: the calls on a vector
 pub mod parts; // parts.rt: the parts that a vector lends
 pub mod two; // two.rt: the calls that change two containers
 pub mod compare; // compare.rt: whether two containers hold the same list
-pub mod walks; // walks.rt: a cursor over a ring or a vector
+pub mod ring_walks; // ring_walks.rt: a cursor over a ring
+pub mod vector_walks; // vector_walks.rt: a cursor over a vector
 pub mod forms; // forms.rt: the stored form
 pub mod records; // records.rt: a record of comma-separated text
+mod walks; // walks.rt: a cursor's numbers, in and out
 
 use ring::Ring;
 use runs::total::Total;

@@ -40,26 +40,26 @@ pub extern "C" fn tum_vector_as_slice(slots: &[u32], state: &[u64; 2]) -> u64
 pub extern "C" fn tum_vector_as_ref(slots: &[u32], state: &[u64; 2]) -> u64
     ensures { λ r. ⌜ partIn r ≡ lendsAll (vectorTray (now (state .entry)) (now (slots .entry))) ⌝ }
 {
-    tum_vector_as_slice(slots, state)
+    tum_vector_as_slice(slots, state) // upstream's AsRef
 }
 
 #[no_mangle]
 pub extern "C" fn tum_vector_deref(slots: &[u32], state: &[u64; 2]) -> u64
     ensures { λ r. ⌜ partIn r ≡ lendsAll (vectorTray (now (state .entry)) (now (slots .entry))) ⌝ }
 {
-    tum_vector_as_slice(slots, state)
+    tum_vector_as_slice(slots, state) // upstream's Deref
 }
 
 #[no_mangle]
 pub extern "C" fn tum_vector_as_mut_slice(slots: &[u32], state: &[u64; 2]) -> u64
     ensures { λ r. ⌜ partIn r ≡ lendsAll (vectorTray (now (state .entry)) (now (slots .entry))) ⌝ }
 {
-    tum_vector_as_slice(slots, state)
+    tum_vector_as_slice(slots, state) // for writing, which is the caller's
 }
 
 #[no_mangle]
 pub extern "C" fn tum_vector_deref_mut(slots: &[u32], state: &[u64; 2]) -> u64
     ensures { λ r. ⌜ partIn r ≡ lendsAll (vectorTray (now (state .entry)) (now (slots .entry))) ⌝ }
 {
-    tum_vector_as_slice(slots, state)
+    tum_vector_as_mut_slice(slots, state)
 }

@@ -24,6 +24,7 @@ use Rattle.runs.proofs.fill as fill·fn
 use Rattle.runs.proofs.copy as copy·fn
 use Rattle.runs.proofs.compare as compare·fn
 use Rattle.runs.proofs.total as total·fn
+use Rattle.runs.proofs.clear as clear·fn
 
 -- the positions of a run of slots
 plain : (c : ℕ) → Placing c itself itself
@@ -86,6 +87,12 @@ module _ (κs : Lfts 1) where
 
   pub ring-once : Twice total·fn.ring.ended κs (total·fn.ring.Reads.Learnt κs) (λ r e r′ e′. r ≡ r′)
   ring-once a r r′ e e′ = one-total _ r r′
+
+  pub run-clear-once : Twice clear·fn.run_clear.ended κs (clear·fn.run_clear.Reads.Learnt κs) (λ r e r′ e′. (r ≡ r′) × (now (e .0) ≡ now (e′ .0)))
+  run-clear-once a r r′ e e′ p q = (one-total _ r r′ (p .0) (q .0), one-fill _ _ _ _ _ _ _ _ (plain _) (p .1) (q .1))
+
+  pub ring-clear-once : Twice clear·fn.ring_clear.ended κs (clear·fn.ring_clear.Reads.Learnt κs) (λ r e r′ e′. (r ≡ r′) × (now (e .0) ≡ now (e′ .0)))
+  ring-clear-once a r r′ e e′ p q = (one-total _ r r′ (p .0) (q .0), one-fill _ _ _ _ _ _ _ _ (placing-any _ _) (p .1) (q .1))
 
 module _ (κs : Lfts 2) where
   pub run-copy-once : Twice copy·fn.run_copy.ended κs (copy·fn.run_copy.Reads.Learnt κs) (λ r e r′ e′. now (e .0) ≡ now (e′ .0))

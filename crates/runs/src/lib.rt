@@ -1,7 +1,8 @@
-// Runs of lent slots: they shift by one, are filled, copied, compared and added up. No law stands here: those of `slots` are cited.
+// Runs of lent slots: they shift by one, are filled, copied, compared, added up and cleared. No law stands here: those of `slots` are cited.
 pub mod copy; // copy.rt: numbers laid into positions, from a lent part or another ring
 pub mod compare; // compare.rt: whether two lent parts, or the entries of two rings, are equal
 pub mod total; // total.rt: what entries add up to, and the total that a state keeps
+pub mod clear; // clear.rt: what freed entries added up to, and 0 in their slots
 
 ghost use mathlib.Core.Path.{_≡_};
 ghost use Prim.Native.Nat.{_+_, _-_, _≤_, _<_};

@@ -6,7 +6,8 @@ use native.Mathlib.Numerals.{add-one}
 use native.Mathlib.Omega.{arith}
 use lib.ListN.{length, getD, take}
 use lib.Seq.{take-all, take-suc}
-use Rattle.slots.specs.Layout.{most}
+use Rattle.slots.specs.Layout.{most, itself}
+use Rattle.slots.specs.Shift.{Filled}
 use Rattle.slots.specs.Count.{weigh}
 use Rattle.slots.specs.Total.{total}
 use Rattle.slots.proofs.Counts.{weigh-append}
@@ -36,12 +37,27 @@ pub no-highs : highs [] ≡ 0
 unfolding highs
 no-highs = refl
 
+pub no-wrapped : 0 ≡ total [] % 2 ^ 32
+unfolding total
+no-wrapped = refl
+
 pub highs-more : (l : List ℕ) (i high : ℕ) → high ≡ highs (take i l) → i < length l → high + getD l i 0 / 65536 ≡ highs (take (i + 1) l)
 unfolding highs
 highs-more l i high e h = rw (add-one, take-suc l i 0 h, weigh-append) (omega arith)
 
 pub wrapped-more : (l : List ℕ) (i sum : ℕ) → sum ≡ total (take i l) % 2 ^ 32 → i < length l → (sum + getD l i 0) % 2 ^ 32 ≡ total (take (i + 1) l) % 2 ^ 32
 wrapped-more l i sum e h = omega (arith, e, sum-more l i (total (take i l)) refl h)
+
+-- The same where the entries below i are filled already: that at i is still what it was.
+module _ (l s : List ℕ) (i x : ℕ) (m : Filled itself 0 i x l s) (h : i < length l) where
+  still : getD s i 0 ≡ getD l i 0
+  still = m .high i (omega arith) h
+
+  pub filled-highs-more : (high : ℕ) → high ≡ highs (take i l) → high + getD s i 0 / 65536 ≡ highs (take (i + 1) l)
+  filled-highs-more high e = rw still (highs-more l i high e h)
+
+  pub filled-wrapped-more : (sum r : ℕ) → sum ≡ total (take i l) % 2 ^ 32 → r ≡ (sum + getD s i 0) % 2 ^ 32 → r ≡ total (take (i + 1) l) % 2 ^ 32
+  filled-wrapped-more sum r e er = er ∙ rw still (wrapped-more l i sum e h)
 
 -- `low` is the sum less the high halves' part of it, modulo 2 to the 32nd
 pub by-halves : (l : List ℕ) (i sum high low : ℕ) → sum ≡ total (take i l) % 2 ^ 32 → high ≡ highs (take i l) → length l ≤ i → length l ≤ most

@@ -6,11 +6,12 @@ use native.Mathlib.Nat.{mul-le-mul-right}
 use native.Mathlib.Numerals.{add-one}
 use native.Mathlib.Omega.{arith}
 use lib.ListN.{length, getD, take, drop, replicate, length-take, length-drop}
-use lib.Seq.{take-all, take-suc, take-take, drop-at}
+use lib.Seq.{ext-getD, take-all, take-suc, take-take, drop-at}
 use Rattle.slots.specs.Layout.{most, slotOf, itself, entries}
+use Rattle.slots.specs.Shift.{Filled}
 use Rattle.slots.specs.Total.{total, changed}
 use Rattle.slots.proofs.Counts.{weigh-none, weigh-append, weigh-split}
-use Rattle.slots.proofs.Placing.{length-entries}
+use Rattle.slots.proofs.Placing.{length-entries, entry}
 use Rattle.slots.proofs.Lays.{from-on, entries-rest}
 use Rattle.slots.proofs.Compares.{entries-first, part-parted, ring-straight, ring-around}
 
@@ -78,6 +79,20 @@ module _ (h from to start : ℕ) (s : List ℕ) (le : from ≤ to) (fits : to �
       let first : entries itself gap (from-on start s) ≡ from-on start s = entries-first gap _ (omega arith) ∙ take-all gap _ (omega arith) in
       let second : entries itself (to - from - gap) s ≡ take (to - from - gap) s = entries-first _ s (omega arith) in
       rw (ring-from, ring-around start (to - from) s (omega arith) (omega arith) past, total-append, first, second) (omega arith)
+
+  -- the run from slot 0 added up after the other was filled, which left it as it was
+  pub sum-around-filled : (a b x : ℕ) (mid : List ℕ) → length s - start < to - from → Filled itself start (length s) x s mid
+      → a ≡ total (drop start (entries itself (length s) s)) → b ≡ total (drop 0 (entries itself (to - from - (length s - start)) mid))
+      → a + b ≡ total (drop from (entries (slotOf (length s) h) to s))
+  sum-around-filled a b x mid past m ea eb =
+      let gap : ℕ = length s - start in
+      let n : ℕ = to - from - gap in
+      let long : length (from-on start s) ≡ gap = simp (length-take, length-drop) (omega arith) in
+      let first : entries itself gap (from-on start s) ≡ from-on start s = entries-first gap _ (omega arith) ∙ take-all gap _ (omega arith) in
+      let same : entries itself n mid ≡ entries itself n s =
+      ext-getD 0 _ _ (length-entries itself n mid ∙ sym (length-entries itself n s))
+      (λ j g. let lt : j < n = (rw (length-entries _ n mid) at g) in entry itself n mid j lt ∙ m .low j (omega arith) ∙ sym (entry itself n s j lt)) in
+      sum-around a b past (ea ∙ ap total (run-rest start (length s) s (omega arith) (omega arith) ∙ first)) (eb ∙ ap total (same ∙ entries-first n s (omega arith)))
 
 pub few-times : (a x : ℕ) → a ≤ most → x < 2 ^ 32 → a * x < 2 ^ 64
 few-times a x few small = omega (arith, mul-le-mul-right x few)

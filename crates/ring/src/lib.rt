@@ -252,8 +252,8 @@ impl Ring {
         if len <= k {
             return shows(0, self);
         }
-        let total = total::less(self.total, total::ring(slots, head, k, len));
-        runs::fill(slots, head, k, len, 0); // a free slot keeps what it held
+        let gone = runs::clear::ring_clear(slots, head, k, len); // a free slot keeps what it held
+        let total = total::less(self.total, gone);
         cut(head, k, total)
     }
 
@@ -270,8 +270,8 @@ impl Ring {
             return refused(6, self);
         }
         if k < len {
-            let total = total::less(self.total, total::ring(slots, head, k, len));
-            runs::fill(slots, head, k, len, 0);
+            let gone = runs::clear::ring_clear(slots, head, k, len);
+            let total = total::less(self.total, gone);
             return cut(head, k, total);
         }
         if len < k {
@@ -294,8 +294,8 @@ impl Ring {
         if len == 0 {
             return shows(0, self);
         }
-        let total = total::less(self.total, total::ring(slots, head, 0, len));
-        runs::fill(slots, head, 0, len, 0);
+        let gone = runs::clear::ring_clear(slots, head, 0, len);
+        let total = total::less(self.total, gone);
         done(0, 0, 0, 0, total)
     }
 }

@@ -144,8 +144,8 @@ impl Vector {
         if len <= k {
             return shows(0, self);
         }
-        let total = total::less(self.total, total::run(slots, k, len));
-        runs::run_fill(slots, k, len, 0);
+        let gone = runs::clear::run_clear(slots, k, len);
+        let total = total::less(self.total, gone);
         done(0, 0, k, total)
     }
 
@@ -161,8 +161,8 @@ impl Vector {
             return refused(6, self);
         }
         if k < len {
-            let total = total::less(self.total, total::run(slots, k, len));
-            runs::run_fill(slots, k, len, 0);
+            let gone = runs::clear::run_clear(slots, k, len);
+            let total = total::less(self.total, gone);
             return done(0, 0, k, total);
         }
         let total = total::more(self.total, total::times(k - len, x));
@@ -178,8 +178,8 @@ impl Vector {
         if table::invalid_vector(cap, len) {
             return refused(1, self);
         }
-        let total = total::less(self.total, total::run(slots, 0, len));
-        runs::run_fill(slots, 0, len, 0);
+        let gone = runs::clear::run_clear(slots, 0, len);
+        let total = total::less(self.total, gone);
         done(0, 0, 0, total)
     }
 

@@ -19,7 +19,6 @@ clear-spec =
     (λ c. search (clear-none-done, stays))
     (λ c κs. omega state)
     (λ c κs. search needs)
-    (λ c κs. omega state)
     (λ c κs. search needs)
     (λ c. search needs)
     (λ c. search (clear-done, shown)))

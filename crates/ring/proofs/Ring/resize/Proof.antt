@@ -17,9 +17,8 @@ resize-spec =
     (λ c. search refusals)
     (λ c κs. search needs)
     (λ c. search refusals)
-    (λ c κs. omega state)
+    (λ c κs. omega state)  -- what goes
     (λ c κs. search needs)
-    (λ c κs. omega state)
     (λ c κs. search needs)
     (λ c. search needs)
     (λ c. search (resize-cut-done, shown))

@@ -17,7 +17,6 @@ clear-spec =
     (λ c. search refusals)
     (λ c κs. omega state)
     (λ c κs. search needs)
-    (λ c κs. omega state)
     (λ c κs. search needs)
     (λ c. search needs)
     (λ c. search (clear-done, shown)))

@@ -19,7 +19,6 @@ truncate-spec =
     (λ c. search (truncate-same-done, stays))
     (λ c κs. omega state)
     (λ c κs. search needs)
-    (λ c κs. omega state)
     (λ c κs. search needs)
     (λ c. search needs)
     (λ c. search (truncate-done, shown)))

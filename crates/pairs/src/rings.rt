@@ -190,9 +190,7 @@ fn hand_over(
 {
     let start = slots::slot(theirs.len(), first, from);
     runs::copy::carry(slots, head, at, theirs, start, to - from);
-    let sum = total::ring(theirs, first, from, to);
-    runs::fill(theirs, first, from, to, 0);
-    sum
+    runs::clear::ring_clear(theirs, first, from, to)
 }
 
 // The work of an append: T's entries, of which there is one at least, become the first's.

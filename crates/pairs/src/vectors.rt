@@ -153,9 +153,7 @@ fn hand_over(slots: &mut [u32], at: usize, theirs: &mut [u32], from: usize, to: 
     ensures { λ r. ⌜ Laid itself at (to - from) (drop from (entries itself to (now (theirs .entry)))) (now (slots .entry)) (now (slots .exit)) × Filled itself from to 0 (now (theirs .entry)) (now (theirs .exit)) × (r .sum ≡ total (drop from (entries itself to (now (theirs .entry))))) ⌝ }
 {
     runs::copy::run_copy(slots, at, &theirs[from..], to - from);
-    let sum = total::run(theirs, from, to);
-    runs::run_fill(theirs, from, to, 0);
-    sum
+    runs::clear::run_clear(theirs, from, to)
 }
 
 // The work of an append: T's entries become the first's.

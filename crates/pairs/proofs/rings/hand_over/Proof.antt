@@ -1,4 +1,4 @@
--- `rings::hand_over` meets its promise: the run is copied, added up and filled with 0.
+-- `rings::hand_over` meets its promise: the run is copied and then cleared, which adds it up.
 use borrow.Author.Needs.{needs}
 use Rattle.slots.proofs.Lays.{lay-from}
 use Rattle.pairs.proofs.rings.hand_over.Statement.{statement}
@@ -10,7 +10,6 @@ hand-over-spec =
     (tie.spec
     (λ c κs. search needs)
     (λ c. search needs)
-    (λ c κs. search needs)
     (λ c κs. search needs)
     (λ c κs. search needs)
     (λ c. search needs)

@@ -1,4 +1,4 @@
--- `vectors::hand_over` meets its promise: the run is copied, added up and filled with 0.
+-- `vectors::hand_over` meets its promise: the run is copied and then cleared, which adds it up.
 use borrow.Author.Needs.{needs}
 use Rattle.slots.proofs.Lays.{lay-rest}
 use Rattle.pairs.proofs.vectors.hand_over.Statement.{statement}
@@ -13,7 +13,6 @@ hand-over-spec =
     (λ c. search needs)
     (λ c. search needs)
     (λ c. search needs)
-    (λ c κs. search needs)
     (λ c κs. search needs)
     (λ c κs. search needs)
     (λ c. search needs)

@@ -22,6 +22,7 @@ use Rattle.runs.proofs.shift_down as shift-down·fn
 use Rattle.runs.proofs.shift_up as shift-up·fn
 use Rattle.runs.proofs.fill as fill·fn
 use Rattle.runs.proofs.copy as copy·fn
+use Rattle.runs.proofs.bring as bring·fn
 use Rattle.runs.proofs.compare as compare·fn
 use Rattle.runs.proofs.total as total·fn
 use Rattle.runs.proofs.clear as clear·fn
@@ -100,6 +101,9 @@ module _ (κs : Lfts 2) where
 
   pub carry-once : Twice copy·fn.carry.ended κs (copy·fn.carry.Reads.Learnt κs) (λ r e r′ e′. now (e .0) ≡ now (e′ .0))
   carry-once a r r′ e e′ = one-lay _ _ _ _ _ _ _ _ (placing-any _ _)
+
+  pub bring-part-once : Twice bring·fn.bring_part.ended κs (bring·fn.bring_part.Reads.Learnt κs) (λ r e r′ e′. (r ≡ r′) × (now (e .0) ≡ now (e′ .0)))
+  bring-part-once a r r′ e e′ p q = (one-total _ r r′ (p .1) (q .1), one-lay _ _ _ _ _ _ _ _ (plain _) (p .0) (q .0))
 
   pub firsts-once : Twice compare·fn.firsts.ended κs (compare·fn.firsts.Reads.Learnt κs) (λ r e r′ e′. r ≡ r′)
   firsts-once a r r′ e e′ = one-tells r r′ _ _

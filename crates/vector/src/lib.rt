@@ -196,8 +196,8 @@ impl Vector {
         if cap - len < more {
             return refused(6, self);
         }
-        let total = total::more(self.total, total::part(s));
-        runs::copy::run_copy(slots, len, s, more);
+        let by = runs::bring::bring_part(slots, len, s);
+        let total = total::more(self.total, by);
         done(0, 0, len + more, total)
     }
 }

@@ -1,4 +1,4 @@
--- `Vector::extend_from_slice` meets its promise: the run behind the entries gets a copy of the slice.
+-- `Vector::extend_from_slice` meets its promise: the run behind the entries gets a copy of the slice, which is added up on the way.
 use borrow.Author.Needs.{needs}
 use Rattle.table.specs.Does.{does}
 use Rattle.table.proofs.Laws.Valid.{state}
@@ -20,7 +20,6 @@ extend-from-slice-spec =
     (λ c. search refusals)
     (λ c κs. omega state)
     (λ c κs. search needs)
-    (λ c κs. omega state)
     (λ c. search needs)
     (λ c κs. search needs)
     (λ c. search needs)

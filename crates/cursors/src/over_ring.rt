@@ -7,7 +7,6 @@ use super::began;
 use super::filled;
 use super::took;
 use ring::Ring;
-use runs::total;
 use vector::Vector;
 ghost use mathlib.Core.Path.{_≡_};
 ghost use Rattle.slots.specs.Layout.{ring};
@@ -159,10 +158,7 @@ impl Cursor {
         if front == back {
             return took(0, self, to);
         }
-        let by = total::ring(slots, head, front, back);
-        let count = back - front;
-        let from = slots::slot(cap, head, front);
-        runs::copy::carry(theirs, 0, 0, slots, from, count);
-        filled(back, back, count, to.total, by)
+        let by = runs::bring::bring_ring(theirs, slots, head, front, back);
+        filled(back, back, back - front, to.total, by)
     }
 }

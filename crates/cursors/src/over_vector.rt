@@ -6,7 +6,6 @@ use super::Taken;
 use super::began;
 use super::filled;
 use super::took;
-use runs::total;
 use vector::Vector;
 ghost use mathlib.Core.Path.{_≡_};
 ghost use Rattle.slots.specs.Layout.{vector};
@@ -155,9 +154,7 @@ impl Cursor {
         if room < back - front {
             return took(6, self, to);
         }
-        let by = total::run(slots, front, back);
-        let count = back - front;
-        runs::copy::run_copy(theirs, 0, &slots[front..], count);
-        filled(back, back, count, to.total, by)
+        let by = runs::bring::bring_run(theirs, 0, slots, front, back);
+        filled(back, back, back - front, to.total, by)
     }
 }

@@ -118,8 +118,7 @@ pub fn clone(first: Ring, slots: &[u32], second: Ring, theirs: &mut [u32]) -> Bo
     if len == 0 {
         return done(0, first, second);
     }
-    runs::copy::carry(theirs, 0, 0, slots, head, len);
-    let sum = total::ring(slots, head, 0, len);
+    let sum = runs::bring::bring_ring(theirs, slots, head, 0, len);
     copied(first, len, second.total, sum)
 }
 

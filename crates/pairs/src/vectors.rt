@@ -93,8 +93,7 @@ pub fn clone(first: Vector, slots: &[u32], second: Vector, theirs: &mut [u32]) -
     if room < len {
         return refused(6, first, second);
     }
-    runs::copy::run_copy(theirs, 0, slots, len);
-    let sum = total::run(slots, 0, len);
+    let sum = runs::bring::bring_run(theirs, 0, slots, 0, len);
     copied(first, len, second.total, sum)
 }
 

@@ -105,6 +105,12 @@ module _ (κs : Lfts 2) where
   pub bring-part-once : Twice bring·fn.bring_part.ended κs (bring·fn.bring_part.Reads.Learnt κs) (λ r e r′ e′. (r ≡ r′) × (now (e .0) ≡ now (e′ .0)))
   bring-part-once a r r′ e e′ p q = (one-total _ r r′ (p .1) (q .1), one-lay _ _ _ _ _ _ _ _ (plain _) (p .0) (q .0))
 
+  pub bring-run-once : Twice bring·fn.bring_run.ended κs (bring·fn.bring_run.Reads.Learnt κs) (λ r e r′ e′. (r ≡ r′) × (now (e .0) ≡ now (e′ .0)))
+  bring-run-once a r r′ e e′ p q = (one-total _ r r′ (p .1) (q .1), one-lay _ _ _ _ _ _ _ _ (plain _) (p .0) (q .0))
+
+  pub bring-ring-once : Twice bring·fn.bring_ring.ended κs (bring·fn.bring_ring.Reads.Learnt κs) (λ r e r′ e′. (r ≡ r′) × (now (e .0) ≡ now (e′ .0)))
+  bring-ring-once a r r′ e e′ p q = (one-total _ r r′ (p .1) (q .1), one-lay _ _ _ _ _ _ _ _ (plain _) (p .0) (q .0))
+
   pub firsts-once : Twice compare·fn.firsts.ended κs (compare·fn.firsts.Reads.Learnt κs) (λ r e r′ e′. r ≡ r′)
   firsts-once a r r′ e e′ = one-tells r r′ _ _
 

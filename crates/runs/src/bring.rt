@@ -1,9 +1,11 @@
 // Numbers that are laid into slots and added up on the way, in one pass: a call that copies entries reads each of them once.
 use super::total::Total;
+use slots::slot;
 ghost use mathlib.Core.Path.{_≡_};
-ghost use Prim.Native.Nat.{_+_, _^_, _≤_};
-ghost use lib.ListN.{length};
-ghost use Rattle.slots.specs.Layout.{most, itself};
+ghost use Prim.Native.Nat.{_+_, _-_, _^_, _≤_};
+ghost use lib.ListN.{length, drop};
+ghost use Rattle.slots.specs.Layout.{most, slotOf, itself, entries};
+ghost use Rattle.slots.specs.Shift.{Reach};
 ghost use Rattle.slots.specs.Copy.{Laid};
 ghost use Rattle.slots.specs.Total.{total};
 
@@ -61,4 +63,30 @@ pub fn bring_part(slots: &mut [u32], at: usize, part: &[u32]) -> Total
 {
     let sum = laid(slots, at, part);
     Total { sum }
+}
+
+// The same of slots from .. to of another run.
+pub fn bring_run(slots: &mut [u32], at: usize, theirs: &[u32], from: usize, to: usize) -> Total
+    requires { ⌜ (at + (to - from) ≤ length (now slots)) × (length (now theirs) ≤ most) × (from ≤ to) × (to ≤ length (now theirs)) ⌝ }
+    ensures { λ r. ⌜ Laid itself at (to - from) (drop from (entries itself to (now (theirs .entry)))) (now (slots .entry)) (now (slots .exit)) × (r .sum ≡ total (drop from (entries itself to (now (theirs .entry))))) ⌝ }
+{
+    let sum = laid(slots, at, &theirs[from..to]);
+    Total { sum }
+}
+
+// Slots from 0 on take what stands at a ring's positions from .. to: a run of its slots, or one to the last slot and one from slot 0.
+pub fn bring_ring(slots: &mut [u32], theirs: &[u32], head: usize, from: usize, to: usize) -> Total
+    requires { ⌜ Reach (length (now theirs)) head from to × (to - from ≤ length (now slots)) ⌝ }
+    ensures { λ r. ⌜ Laid itself 0 (to - from) (drop from (entries (slotOf (length (now (theirs .entry))) head) to (now (theirs .entry)))) (now (slots .entry)) (now (slots .exit)) × (r .sum ≡ total (drop from (entries (slotOf (length (now (theirs .entry))) head) to (now (theirs .entry))))) ⌝ }
+{
+    let start = slot(theirs.len(), head, from);
+    let count = to - from;
+    let gap = theirs.len() - start;
+    if count <= gap {
+        let end = start + count;
+        return bring_run(slots, 0, theirs, start, end);
+    }
+    let sum = laid(slots, 0, &theirs[start..]);
+    let more = laid(slots, gap, &theirs[..count - gap]);
+    Total { sum: sum + more }
 }

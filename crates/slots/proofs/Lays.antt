@@ -7,8 +7,8 @@ use Prim.Native.Nat.{ℕ, _+_, _-_, _%_, _≤_, _<_}
 use native.Mathlib.Nat.{mod-eq-of-lt, add-mod-right}
 use native.Mathlib.Omega.{arith}
 use lib.ListN.{length, getD, set, take, drop, replicate, getD-replicate, length-set, length-append, length-take, length-drop, List·getD-append}
-use lib.Seq.{ext-getD, take-all, getD-take, getD-drop, getD-append-add}
-use Rattle.slots.specs.Layout.{ring, vector, slotOf, posOf, itself, entries, relaid}
+use lib.Seq.{ext-getD, take-all, getD-take, getD-drop, getD-append-add, drop-at}
+use Rattle.slots.specs.Layout.{Kind, ring, vector, place, slotOf, posOf, itself, entries, relaid}
 use Rattle.slots.specs.Shift.{Reach, Filled}
 use Rattle.slots.specs.Copy.{Laid}
 use Rattle.slots.proofs.Words.{below?}
@@ -82,6 +82,15 @@ lay-join place at a count s old mid new ha room m n = record {
       (below? e a);
   high = λ p h g. n .high p (omega arith) (omega (arith, m .long)) ∙ m .high p (omega arith) g;
 }
+
+-- one list behind another
+pub lay-append : (place : ℕ → ℕ) (at : ℕ) (a b old mid new : List ℕ) → at + (length a + length b) ≤ length old → Laid place at (length a) a old mid
+    → Laid place (at + length a) (length b) b mid new → Laid place at (length a + length b) (a ++ b) old new
+lay-append place at a b old mid new fits m n =
+    let rest : length a + length b - length a ≡ length b = omega arith in
+    lay-join place at (length a) (length a + length b) (a ++ b) old mid new (omega arith) fits
+    (lay-same place at (length a) a (a ++ b) old mid (λ e h. sym (List·getD-append a b 0 e h)) m)
+    (rw (rest, drop-at a b (length a) refl) n)
 
 -- a run of slots that holds a run of positions: positions at + e, e < count, stand in slots a + e
 lay-run : (place pos : ℕ → ℕ) (s old new : List ℕ) → Placing (length old) place pos → (at count a : ℕ) → at + count ≤ length old
@@ -178,7 +187,18 @@ pub entries-rest : (c h n i : ℕ) (s : List ℕ) → i ≤ n → drop i (entrie
 entries-rest c h n i s fits =
     sym (take-all (n - i) (drop i (entries (slotOf c h) n s)) (simp (length-drop, length-entries) (omega arith))) ∙ entries-part c h n i (n - i) s (omega arith)
 
--- with head 0 a ring's position is its slot, as a vector's is
+-- what stands from position i on before position b
+pub entries-until : (place : ℕ → ℕ) (n i b : ℕ) (s : List ℕ) → b ≤ n → take (b - i) (drop i (entries place n s)) ≡ drop i (entries place b s)
+entries-until place n i b s fits =
+    let l : List ℕ = entries place n s in
+    let long : length (take (b - i) (drop i l)) ≡ b - i = simp (length-take, length-drop, length-entries) (omega arith) in
+    ext-getD 0 _ _ (long ∙ sym (simp (length-drop, length-entries) refl))
+    (λ j lt.
+    getD-take (b - i) (drop i l) j 0 (omega arith)
+    ∙ getD-drop i l j 0
+    ∙ entry place n s (i + j) (omega arith)
+    ∙ sym (getD-drop i (entries place b s) j 0 ∙ entry place b s (i + j) (omega arith)))
+
 -- what is laid from another ring's positions from i up to n, the first of which stands in slot a; and where these are all of them
 pub lay-from : (place : ℕ → ℕ) (at c h i n a : ℕ) (s old new : List ℕ) → i ≤ n → a ≡ slotOf c h i → Laid place at (n - i) (entries (slotOf c a) (n - i) s) old new
     → Laid place at (n - i) (drop i (entries (slotOf c h) n s)) old new
@@ -187,20 +207,22 @@ lay-from place at c h i n a s old new le e m = rw (entries-rest c h n i s le, �
 pub lay-all : (place : ℕ → ℕ) (at n : ℕ) (s old new : List ℕ) → Laid place at (n - 0) s old new → Laid place at n s old new
 lay-all place at n s old new m = let all : n - 0 ≡ n = omega arith in rw all at m
 
-pub lay-plain : (at count : ℕ) (s old new : List ℕ) → at + count ≤ length old → Laid (slotOf (length old) 0) at count s old new → Laid itself at count s old new
-lay-plain at count s old new fits m =
+-- with head 0 a ring's position is its slot, as a vector's is
+lay-ringed : (at count : ℕ) (s old new : List ℕ) → at + count ≤ length old → Laid itself at count s old new → Laid (slotOf (length old) 0) at count s old new
+lay-ringed at count s old new fits m =
     let plain : (j : ℕ) → j < length old → slotOf (length old) 0 j ≡ j = λ j h. slot-near (length old) 0 j (omega arith) ∙ omega arith in
     record {
       long = m .long;
-      low = λ j h. rw (plain j (omega arith)) at (m .low j h);
-      held = λ e h. rw (plain (at + e) (omega arith)) at (m .held e h);
-      high = λ j h g. rw (plain j g) at (m .high j h g);
+      low = λ j h. rw (plain j (omega arith)) (m .low j h);
+      held = λ e h. rw (plain (at + e) (omega arith)) (m .held e h);
+      high = λ j h g. rw (plain j g) (m .high j h g);
     }
 
--- a vector's entries are its first slots, and a part or the rest of them its slots from i on
-pub lay-entries : (place : ℕ → ℕ) (at n : ℕ) (s old new : List ℕ) → Laid place at n s old new → Laid place at n (entries itself n s) old new
-lay-entries place at n s old new m = lay-same place at n s _ old new (λ e h. sym (entry itself n s e h)) m
+pub lay-placed : (k : Kind) (count : ℕ) (s old new : List ℕ) → count ≤ length old → Laid itself 0 count s old new → Laid (place k (length old) 0) 0 count s old new
+lay-placed ring count s old new fits m = lay-ringed 0 count s old new (omega arith) m
+lay-placed vector count s old new fits m = m
 
+-- a part of a vector's entries, or the rest of them: its slots from i on
 pub lay-part : (place : ℕ → ℕ) (at n i m : ℕ) (s old new : List ℕ) → n ≤ length s → i + m ≤ n → Laid place at m (from-on i s) old new
     → Laid place at m (take m (drop i (entries itself n s))) old new
 lay-part place at n i m s old new fits part laid =

@@ -50,7 +50,7 @@ pub sum-all : (l : List ℕ) (i sum : ℕ) → sum ≡ total (take i l) → leng
 sum-all l i sum e h = e ∙ ap total (take-all i l h)
 
 -- a run of slots: a vector's entries from a position on
-run-rest : (from to : ℕ) (s : List ℕ) → from ≤ to → to ≤ length s → drop from (entries itself to s) ≡ entries itself (to - from) (from-on from s)
+pub run-rest : (from to : ℕ) (s : List ℕ) → from ≤ to → to ≤ length s → drop from (entries itself to s) ≡ entries itself (to - from) (from-on from s)
 run-rest from to s le fits = ap (drop from) (part-parted to from s le fits) ∙ drop-at (entries itself from s) _ from (length-entries itself from s)
 
 -- THE SUMS, as a proof finds them.
@@ -61,7 +61,7 @@ sum-run from to sum s le fits e =
 
 -- of a ring: those positions stand in one run of slots, or in one to the last slot and one from slot 0
 module _ (h from to start : ℕ) (s : List ℕ) (le : from ≤ to) (fits : to ≤ length s) (at : start ≡ slotOf (length s) h from) (inside : start < length s) where
-  ring-from : drop from (entries (slotOf (length s) h) to s) ≡ entries (slotOf (length s) start) (to - from) s
+  pub ring-from : drop from (entries (slotOf (length s) h) to s) ≡ entries (slotOf (length s) start) (to - from) s
   ring-from = rw at (entries-rest (length s) h to from s le)
 
   pub sum-straight : (sum : ℕ) → to - from ≤ length s - start → sum ≡ total (drop start (entries itself (start + (to - from)) s))

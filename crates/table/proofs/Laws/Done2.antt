@@ -13,7 +13,7 @@ use Rattle.slots.specs.Copy.{Laid}
 use Rattle.slots.proofs.Placing.{Placing, placing}
 use Rattle.slots.proofs.Moves.{moved-kept}
 use Rattle.slots.proofs.Fills.{fill-none, relaid-take}
-use Rattle.slots.proofs.Lays.{from-on, lay-entries, lay-part, entries-part, lay-plain, lay-none, relaid-append, relaid-fresh, relaid-clear}
+use Rattle.slots.proofs.Lays.{entries-until, lay-none, lay-all, lay-placed, relaid-append, relaid-fresh, relaid-clear}
 use Rattle.table.specs.Tray.{Tray, cap, list, invalid, Cursor, nowhere}
 use Rattle.table.specs.Calls.{Call2, append, splitOff, clone, fromIter}
 use Rattle.table.specs.Table.{Row2, after2, remaining, holding}
@@ -119,9 +119,9 @@ module _ (k k2 : Kind) (t t2 : Tray) (o : Outcome2) (ok : invalid k t ≡ false)
       appends (t .slots) (t2 .slots) (omega arith) (rw none (lay-none _ _ _ _)) (rw none (fill-none _ _ _ _)) (rw (sum, home) (eo ∙ at-home _ _ _ home2 none))
 
   -- T, which is empty, gets a part of the list
-  pub clone-done : Homed k t → (u2 : List ℕ) → t2 .len ≡ 0 → t .len ≤ cap t2 → Laid (place k2 (cap t2) 0) 0 (t .len) (list k t) (t2 .slots) u2
+  cloned : Homed k t → (u2 : List ℕ) → t2 .len ≡ 0 → t .len ≤ cap t2 → Laid (place k2 (cap t2) 0) 0 (t .len) (list k t) (t2 .slots) u2
       → o ≡ gives2 0 (t .head) (t .len) (t .slots) 0 (t .len) u2 → o ≡ does2 k k2 clone t t2
-  clone-done home u2 none room m eo =
+  cloned home u2 none room m eo =
       cc (
         home,
         done2-plainly k k2 t t2 clone ok ok2 (free t2 none, (le-ltb _ _ room, tt)),
@@ -134,8 +134,13 @@ module _ (k k2 : Kind) (t t2 : Tray) (o : Outcome2) (ok : invalid k t ≡ false)
         relaid-fresh (pos k2 (cap t2) (t2 .head)) _ _ (t .len) (list k t) (t2 .slots) u2 anew (many k t) m,
       )
 
+  -- laid from slot 0 on, as the code has it: there a ring's position is its slot, as a vector's is
+  pub clone-done : Homed k t → (u2 : List ℕ) → t2 .len ≡ 0 → t .len ≤ cap t2 → Laid itself 0 (t .len - 0) (drop 0 (list k t)) (t2 .slots) u2
+      → o ≡ gives2 0 (t .head) (t .len) (t .slots) 0 (t .len) u2 → o ≡ does2 k k2 clone t t2
+  clone-done home u2 none room m eo = cloned home u2 none room (lay-placed k2 (t .len) _ _ u2 room (lay-all itself 0 (t .len) _ _ u2 m)) eo
+
   pub clone-none-done : Homed k t → Homed k2 t2 → t2 .len ≡ 0 → t .len ≡ 0 → o ≡ gives2 0 (t .head) (t .len) (t .slots) (t2 .head) (t2 .len) (t2 .slots) → o ≡ does2 k k2 clone t t2
-  clone-none-done home home2 none none1 eo = clone-done home (t2 .slots) none (omega arith) (rw none1 (lay-none _ _ _ _)) (cc (eo, at-home (t .head) (t .len) (t .slots) home2 none, none1))
+  clone-none-done home home2 none none1 eo = cloned home (t2 .slots) none (omega arith) (rw none1 (lay-none _ _ _ _)) (cc (eo, at-home (t .head) (t .len) (t .slots) home2 none, none1))
 
   split : (i : ℕ) (u u2 : List ℕ) → i ≤ t .len → t2 .len ≡ 0 → t .len - i ≤ cap t2 → Filled (place k (cap t) (t .head)) i (t .len) 0 (t .slots) u
       → Laid (place k2 (cap t2) 0) 0 (t .len - i) (drop i (list k t)) (t2 .slots) u2
@@ -189,15 +194,13 @@ module _ (k : Kind) (t t2 : Tray) (o : Outcome2) (ok : invalid k t ≡ false) (o
       let z : c .back - c .front ≡ 0 = omega arith in
       from-iter (t2 .slots) (omega arith) (rw z (lay-none _ _ _ _)) (cc (eo, z))
 
--- over a ring: the part is the list of a ring whose head is the part's first slot
-pub from-iter-done : (t t2 : Tray) (o : Outcome2) → invalid ring t ≡ false → invalid vector t2 ≡ false → (c : Cursor) (s : ℕ) (u2 : List ℕ) → c .front ≤ c .back
-    → c .back ≤ t .len → t2 .len ≡ 0 → Homed ring t → c .back - c .front ≤ cap t2 → s ≡ slotOf (cap t) (t .head) (c .front)
-    → Laid (slotOf (cap t2) 0) 0 (c .back - c .front) (entries (slotOf (cap t) s) (c .back - c .front) (t .slots)) (t2 .slots) u2
-    → o ≡ fills t (c .back - c .front) u2 (c .back) → o ≡ does2 ring vector (fromIter c) t t2
-from-iter-done t t2 o ok ok2 c s u2 le fits none home room es m eo =
-    let is : remaining c (list ring t) ≡ entries (slotOf (cap t) s) (c .back - c .front) (t .slots) =
-    rw es (entries-part (cap t) (t .head) (t .len) (c .front) (c .back - c .front) (t .slots) (omega arith)) in
-    from-iter ring t t2 o ok ok2 c le fits none home u2 room (lay-plain 0 _ _ (t2 .slots) u2 (omega arith) (rw is m)) eo
+-- the entries up to the cursor's back, from its front on
+pub from-iter-done : (k : Kind) (t t2 : Tray) (o : Outcome2) → invalid k t ≡ false → invalid vector t2 ≡ false → (c : Cursor) (u2 : List ℕ) → c .front ≤ c .back
+    → c .back ≤ t .len → t2 .len ≡ 0 → Homed k t → c .back - c .front ≤ cap t2
+    → Laid itself 0 (c .back - c .front) (drop (c .front) (entries (place k (cap t) (t .head)) (c .back) (t .slots))) (t2 .slots) u2
+    → o ≡ fills t (c .back - c .front) u2 (c .back) → o ≡ does2 k vector (fromIter c) t t2
+from-iter-done k t t2 o ok ok2 c u2 le fits none home room m eo =
+    from-iter k t t2 o ok ok2 c le fits none home u2 room (rw (entries-until (place k (cap t) (t .head)) (t .len) (c .front) (c .back) (t .slots) fits) m) eo
 
 -- Of a ring, which keeps its head while entries come.
 pub append-done : (k2 : Kind) (t t2 : Tray) (o : Outcome2) → invalid ring t ≡ false → invalid k2 t2 ≡ false → (u u2 : List ℕ) → t2 .len ≤ cap t - t .len
@@ -217,17 +220,7 @@ module _ (t t2 : Tray) (o : Outcome2) (ok : invalid vector t ≡ false) (ok2 : i
       → Filled itself 0 (t2 .len) 0 (t2 .slots) u2 → o ≡ gives2 0 0 (t .len + t2 .len) u 0 0 u2 → o ≡ does2 vector vector append t t2
   vector-append-done u u2 room m m2 eo = appends vector vector t t2 o ok ok2 u u2 room m m2 eo
 
-  pub vector-clone-done : Homed vector t → (u2 : List ℕ) → t2 .len ≡ 0 → t .len ≤ cap t2 → Laid itself 0 (t .len) (t .slots) (t2 .slots) u2
-      → o ≡ gives2 0 (t .head) (t .len) (t .slots) 0 (t .len) u2 → o ≡ does2 vector vector clone t t2
-  vector-clone-done home u2 none room m eo = clone-done vector vector t t2 o ok ok2 home u2 none room (lay-entries _ _ _ _ _ _ m) eo
-
   pub vector-split-done : (i : ℕ) (u u2 : List ℕ) → i ≤ t .len → t2 .len ≡ 0 → t .len - i ≤ cap t2
       → Laid itself 0 (t .len - i) (drop i (list vector t)) (t2 .slots) u2 → Filled itself i (t .len) 0 (t .slots) u
       → o ≡ gives2 0 0 i u 0 (t .len - i) u2 → o ≡ does2 vector vector (splitOff i) t t2
   vector-split-done i u u2 le none room m2 m eo = split vector vector t t2 o ok ok2 i u u2 le none room m m2 eo
-
-  pub vector-from-iter-done : Homed vector t → (c : Cursor) (u2 : List ℕ) → c .front ≤ c .back → c .back ≤ t .len → t2 .len ≡ 0 → c .back - c .front ≤ cap t2
-      → Laid itself 0 (c .back - c .front) (from-on (c .front) (t .slots)) (t2 .slots) u2
-      → o ≡ fills t (c .back - c .front) u2 (c .back) → o ≡ does2 vector vector (fromIter c) t t2
-  vector-from-iter-done home c u2 le fits none room m eo =
-      from-iter vector t t2 o ok ok2 c le fits none home u2 room (lay-part itself 0 (t .len) (c .front) _ (t .slots) _ _ (fit vector t ok .fits) (omega arith) m) eo

@@ -1,13 +1,13 @@
 -- The total in an answer: what the code added and subtracted is what the call put in and took out, so the total is the one that its clause says.
 use Prim.Native.Nat.{ℕ, _+_, _-_, _*_, _^_, _≤_, _<_}
-use mathlib.Core.Path.{_≡_, refl, sym, ap, _∙_}
+use mathlib.Core.Path.{_≡_, sym, ap, _∙_}
 use mathlib.Core.List.{List, [], _∷_}
 use native.Mathlib.Omega.{arith}
-use lib.ListN.{length, drop, replicate, length-take, length-drop, drop-of-length-le}
-use lib.Seq.{ext-getD, getD-take, getD-drop}
+use lib.ListN.{length, drop, replicate, drop-of-length-le}
 use Rattle.slots.specs.Layout.{Kind, entries}
 use Rattle.slots.specs.Total.{total, changed, totalled}
-use Rattle.slots.proofs.Placing.{length-entries, entry}
+use Rattle.slots.proofs.Placing.{length-entries}
+use Rattle.slots.proofs.Lays.{entries-until}
 use Rattle.slots.proofs.Totals.{total-none, total-one, total-empty, total-append, total-split, total-replicate, same-change, no-change, all-put}
 use Rattle.table.specs.Tray.{Tray, list, Cursor}
 use Rattle.table.specs.Calls.{Call, resize, Call2, append, splitOff, clone, fromIter, Making, fromElem}
@@ -130,14 +130,7 @@ pub copies-rest : (u : Cursor) (place place2 : ℕ → ℕ) (m m2 d n n2 n2′ :
     → d ≡ total (drop (u .front) (entries place (u .back) s)) → n2′ ≡ changed n2 d 0 → Changes2 (fromIter u) (entries place m s) (entries place2 m2 z) n n2 n n2′
 copies-rest u place place2 m m2 d n n2 n2′ s z small fits empty sum e2 =
     let l : List ℕ = entries place m s in
-    let long : length (remaining u l) ≡ u .back - u .front = simp (length-take, length-drop, length-entries) (omega arith) in
-    let rest : remaining u l ≡ drop (u .front) (entries place (u .back) s) =
-    ext-getD 0 _ _ (long ∙ sym (simp (length-drop, length-entries) refl))
-    (λ j lt.
-    getD-take (u .back - u .front) (drop (u .front) l) j 0 (omega arith)
-    ∙ getD-drop (u .front) l j 0
-    ∙ entry place m s (u .front + j) (omega arith)
-    ∙ sym (getD-drop (u .front) (entries place (u .back) s) j 0 ∙ entry place (u .back) s (u .front + j) (omega arith))) in
+    let rest : remaining u l ≡ drop (u .front) (entries place (u .back) s) = entries-until place m (u .front) (u .back) s fits in
     record {
       is = no-change n _ small;
       is2 = e2 ∙ same-change n2 _ _ _ _ (omega (arith, ap total rest, total-empty (entries place2 m2 z) (length-entries place2 m2 z ∙ empty)));

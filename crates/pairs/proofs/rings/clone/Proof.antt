@@ -1,4 +1,4 @@
--- `rings::clone` meets its promise: there is nothing to copy, or T gets a copy of the run, a law for each.
+-- `rings::clone` meets its promise: there is nothing to copy, or T gets a copy of the run, which is added up on the way, a law for each.
 use borrow.Author.Needs.{needs}
 use Rattle.table.specs.Does.{does2}
 use Rattle.table.proofs.Laws.Valid.{state}
@@ -24,7 +24,6 @@ clone-spec =
     (λ c. search refusals depth 9)
     (λ c κs. search needs)
     (λ c. search (clone-none-done, stays) depth 9)
-    (λ c κs. omega state)
     (λ c κs. omega state)
     (λ c κs. search needs)
     (λ c. search needs)

@@ -1,8 +1,8 @@
--- `vectors::clone` meets its promise: T gets a copy of the run.
+-- `vectors::clone` meets its promise: T gets a copy of the run, which is added up on the way.
 use borrow.Author.Needs.{needs}
 use Rattle.table.specs.Does.{does2}
 use Rattle.table.proofs.Laws.Valid.{state}
-use Rattle.table.proofs.Laws.Done2.{vector-clone-done}
+use Rattle.table.proofs.Laws.Done2.{clone-done}
 use Rattle.pairs.proofs.ToldVectors.{refusals, shown}
 use Rattle.pairs.proofs.vectors.clone.Statement.{statement}
 use Rattle.pairs.proofs.vectors.clone.Tie as tie
@@ -23,7 +23,6 @@ clone-spec =
     (λ c κs. search needs)
     (λ c. search refusals depth 9)
     (λ c κs. omega state)
-    (λ c κs. omega state)
     (λ c κs. search needs)
     (λ c. search needs)
-    (λ c. search (vector-clone-done, shown) depth 9))
+    (λ c. search (clone-done, shown) depth 9))

@@ -1,6 +1,7 @@
 # Two commands: `make test` is the gate, `make run` shows the programs `import` and `tray` at work. `make compare` and `make bench` hold the calls
-# against Rust's (those on records against Python's), `make firmware` tries the C header. These three are no part of the gate.
-.PHONY: test run bench compare firmware
+# against Rust's (those on records against Python's), `make firmware` tries the C header, `make footprint` measures the archive. These four are no
+# part of the gate.
+.PHONY: test run bench compare firmware footprint
 
 # First the papers and the layout, then everything is proved from nothing: tools/ci runs rt ci and lets its 'N passed, M failed'
 # through last, once every wrong body was seen refused by itself. After a failure make adds a line on stderr and exits with 2.
@@ -43,3 +44,9 @@ SEED ?= 1
 firmware:
 	@examples/firmware-run
 	@ARCHIVE=target/firmware/libtumbrelice.a oracle/calls-run $(SEED)
+
+# What the archive takes of a board, with objdump: bytes of code, data and stack of each call, to docs/FOOTPRINT.md. It fails at a stack of 1,024 bytes or
+# more or one that can't be told, at data that can be written, at a division, and at a name left open but memmove and its like. `tools/footprint FILE`
+# measures an archive that is there already.
+footprint:
+	@python3 tools/footprint

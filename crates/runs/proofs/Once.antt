@@ -80,8 +80,14 @@ module _ (κs : Lfts 1) where
   pub fill-once : Twice fill·fn.ended κs (fill·fn.Reads.Learnt κs) (λ r e r′ e′. now (e .0) ≡ now (e′ .0))
   fill-once a r r′ e e′ = one-fill _ _ _ _ _ _ _ _ (placing-any _ _)
 
+  pub part-once : Twice total·fn.part.ended κs (total·fn.part.Reads.Learnt κs) (λ r e r′ e′. r ≡ r′)
+  part-once a r r′ e e′ = one-total _ r r′
+
   pub run-once : Twice total·fn.run.ended κs (total·fn.run.Reads.Learnt κs) (λ r e r′ e′. r ≡ r′)
   run-once a r r′ e e′ = one-total _ r r′
+
+  pub ring-once : Twice total·fn.ring.ended κs (total·fn.ring.Reads.Learnt κs) (λ r e r′ e′. r ≡ r′)
+  ring-once a r r′ e e′ = one-total _ r r′
 
   pub run-clear-once : Twice clear·fn.run_clear.ended κs (clear·fn.run_clear.Reads.Learnt κs) (λ r e r′ e′. (r ≡ r′) × (now (e .0) ≡ now (e′ .0)))
   run-clear-once a r r′ e e′ p q = (one-total _ r r′ (p .0) (q .0), one-fill _ _ _ _ _ _ _ _ (plain _) (p .1) (q .1))

@@ -1,9 +1,11 @@
 // What a container's entries add up to, as its state keeps it. Nothing else changes a total, so a width whose entries are not added up can leave it, and these bodies,
 // empty. A container has at most 4,096 entries of 32 bits: what they add up to is exact, and only the total that was given can wrap.
+use slots::slot;
 ghost use mathlib.Core.Path.{_≡_};
 ghost use Prim.Native.Nat.{_*_, _^_, _≤_};
 ghost use lib.ListN.{length, drop};
-ghost use Rattle.slots.specs.Layout.{most, itself, entries};
+ghost use Rattle.slots.specs.Layout.{most, slotOf, itself, entries};
+ghost use Rattle.slots.specs.Shift.{Reach};
 ghost use Rattle.slots.specs.Total.{total, changed};
 
 pub struct Total {
@@ -79,11 +81,35 @@ fn added(part: &[u32]) -> u64
     sum
 }
 
+pub fn part(part: &[u32]) -> Total
+    requires { ⌜ length (now part) ≤ most ⌝ }
+    ensures { λ r. ⌜ r .sum ≡ total (now (part .entry)) ⌝ }
+{
+    let sum = added(part);
+    Total { sum }
+}
+
 // What slots from .. to add up to.
 pub fn run(slots: &[u32], from: usize, to: usize) -> Total
     requires { ⌜ (length (now slots) ≤ most) × (from ≤ to) × (to ≤ length (now slots)) ⌝ }
     ensures { λ r. ⌜ r .sum ≡ total (drop from (entries itself to (now (slots .entry)))) ⌝ }
 {
     let sum = added(&slots[from..to]);
+    Total { sum }
+}
+
+// What a ring's positions from .. to add up to: a run of slots, or one to the last slot and one from slot 0.
+pub fn ring(slots: &[u32], head: usize, from: usize, to: usize) -> Total
+    requires { ⌜ Reach (length (now slots)) head from to ⌝ }
+    ensures { λ r. ⌜ r .sum ≡ total (drop from (entries (slotOf (length (now (slots .entry))) head) to (now (slots .entry)))) ⌝ }
+{
+    let start = slot(slots.len(), head, from);
+    let count = to - from;
+    let gap = slots.len() - start;
+    if count <= gap {
+        let end = start + count;
+        return run(slots, start, end);
+    }
+    let sum = added(&slots[start..]) + added(&slots[..count - gap]);
     Total { sum }
 }

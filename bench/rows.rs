@@ -66,17 +66,17 @@ macro_rules! side {
 
 const TEST: &str = "the one test before the work, which asks of a state what Rust's type has settled: one to three comparisons more";
 const READ: &str = "the one test before the work, which asks of a state what Rust's type has settled: one to three comparisons more; and the slot, which is put into the word beside the entry: a shift and an `or` (request 10)";
-const ENDS: &str = "the one test before the work, which asks of a state what Rust's type has settled: two comparisons more in each call, and two more in a push, which asks an empty ring for its head (request 03); the freed slot, which paper 01 has set to 0 and Rust leaves as it was; and the state, all three words of which are loaded and written back, the third of them the total, with an addition or a subtraction (request 04), where Rust stores what changed (on a Neoverse-N1, which loads and stores head and length as a pair, the largest part before that request)";
+const ENDS: &str = "the one test before the work, which asks of a state what Rust's type has settled: two comparisons more in each call, and two more in a push, which asks an empty ring for its head (request 03); the freed slot, which paper 01 has set to 0 and Rust leaves as it was; and the total, one word more of the state that is loaded, changed and stored back in each call (request 04)";
 const INSIDE: &str = "the one test before the work, which asks of a state what Rust's type has settled: one to three comparisons more; and the total, one number more that is loaded, changed and stored back in each call (request 04)";
-const REFILL: &str = "paper 01 has every freed slot hold 0: a memset for each run of slots, where Rust touches none; and what clear takes out is added up: a walk over each run that Rust doesn't make (request 04); at 256 also where the loop of resize lies in its function; at 16 the tests of two calls";
-const APPEND: &str = "the slots that T frees are set to 0, as paper 01 has it: a memset for each run, where Rust touches none; and what goes over is added up: a walk over each run that Rust doesn't make (request 04)";
-const CLONE: &str = "the test of two states; and what is put in is added up: beside the copy, a memmove for each run of slots, a walk over each that Rust doesn't make (request 04)";
+const REFILL: &str = "paper 01 has every freed slot hold 0, and what clear takes out is added up (request 04): a pass over each run of slots, where Rust touches none; at 256 also where the loop of resize lies in its function; at 16 the tests of two calls";
+const APPEND: &str = "the slots that T frees are set to 0, as paper 01 has it, and what goes over is added up (request 04): a pass over each run, where Rust touches none";
+const CLONE: &str = "the test of two states; and what is put in is added up on the way (request 04): a loop of 16-byte registers for each run of slots, where Rust's copy is a memmove";
 const WALK: &str = "the one test before each step, which asks of the ring and of the cursor what Rust's iterator has settled when it is made: four comparisons more; and the slot, which is worked out anew where the iterator moves a pointer";
 const STACK: &str = "the answer, one word that the caller takes apart, where Rust's push has none and its pop two registers; the total, one number more that is loaded, changed and stored back in each call (request 04); the freed slot and the one test before the work weigh next to nothing here";
 const SHIFT: &str = "beside a shift of a few entries each step counts: the state, the total with it (request 04), is written back and the answer put together after the block move, so six registers are saved before it and restored; and the test of the state";
 const SWAP: &str = "the one test before the work: two comparisons more in each call; the branch that asks whether the entry is the last one, which at 16 it often is and Rust does not ask; the total, one number more that is loaded, changed and stored back in each call (request 04); and the answer, one word that the caller takes apart";
-const EXTEND: &str = "what is put in is added up: a walk over the run that Rust doesn't make (request 04). Beside a block move of a few entries each step counts too: the state is written back after it, so four registers are saved before it and restored";
-const CUT: &str = "paper 01 has every freed slot hold 0: one memset more, where Rust's truncate stores one word; and what is put in or taken out is added up: in each call a walk over the run that Rust doesn't make (request 04); at 16 and 256 also the registers that are saved before the block move and restored";
+const EXTEND: &str = "what is put in is added up on the way (request 04): a loop of 16-byte registers, where Rust's copy is a memmove";
+const CUT: &str = "paper 01 has every freed slot hold 0, where Rust's truncate stores one word; and what is put in or taken out is added up (request 04): in each call a pass over the run that Rust doesn't make";
 const TOTAL: &str = "the read of one number, behind a call as all else is, which takes as long at every capacity; Rust's walk at 16 is of twelve entries";
 
 const SAME: &str = "Rust's `==` is the C library's memcmp, which has code for 32-byte registers where the processor has them; an archive for plain x86-64 has 16-byte ones, so twice as many loads. That is the likely reason and was not isolated (decision 39, bench/TRIED.md)";
@@ -85,7 +85,7 @@ const SAME: &str = "Rust's `==` is the C library's memcmp, which has code for 32
 const HAND: &str = "not looked into: the row was below or level when this was written";
 const SAME_HAND: &str = "the same: by hand's `==` is that memcmp too";
 const LINE: &str = "the loop that adds up is the same on both sides, but ours runs across a line of the cache. With the archive's loops put at a line, as by hand's are, the row is level (bench/TRIED.md)";
-pub const BEYOND: &str = "where the loop that adds up lies (see by hand); a list that runs on to slot 0 is two runs, each with a memmove, a memset and a loop of its own, where the limit has one; and the tests and answers of the calls";
+pub const BEYOND: &str = "a list that runs on to slot 0 is two runs, each with a loop of its own, where the limit has one; and the tests and answers of the calls";
 
 // A run of n that is only added up `sums` times, and set to 0 as well `zeros` times.
 fn demanded(n: usize, sums: usize, zeros: usize) -> Side {

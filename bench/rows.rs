@@ -84,7 +84,6 @@ const SAME: &str = "Rust's `==` is the C library's memcmp, which has code for 32
 // By hand does what the rules demand, too, and beside the limit the demanded work is counted.
 const HAND: &str = "not looked into: the row was below or level when this was written";
 const SAME_HAND: &str = "the same: by hand's `==` is that memcmp too";
-const LINE: &str = "the loop that adds up is the same on both sides, but ours runs across a line of the cache. With the archive's loops put at a line, as by hand's are, the row is level (bench/TRIED.md)";
 pub const BEYOND: &str = "a list that runs on to slot 0 is two runs, each with a loop of its own, where the limit has one; and the tests and answers of the calls";
 
 // A run of n that is only added up `sums` times, and set to 0 as well `zeros` times.
@@ -111,9 +110,9 @@ pub fn containers() -> Vec<Row> {
         both!("push_front + pop_back", MOST, ENDS, HAND, (Ring, [0], wrapped, |r, n, spots, k| ring_queue_back(r, k))),
         both!("read", MOST, READ, HAND, (Ring, [0], wrapped, |r, n, spots, k| ring_read(r, n, &spots, k))),
         both!("insert + remove", MOST, INSIDE, HAND, (Ring, [0], wrapped, |r, n, spots, k| ring_shift(r, n, &spots, k))),
-        both!("clear + resize", MOST, REFILL, LINE, |n| demanded(n, 0, 1), (Ring, [0], wrapped, |r, n, spots, k| ring_refill(r, n, k))),
-        both!("append", MOST, APPEND, LINE, |n| demanded(n, 0, 2), (Rings, [], paired, |p, n, spots, k| pair_append(p, k))),
-        both!("clone", MOST, CLONE, LINE, |n| demanded(n, 1, 0), (Rings, [], paired, |p, n, spots, k| pair_clone(p, k))),
+        both!("clear + resize", MOST, REFILL, HAND, |n| demanded(n, 0, 1), (Ring, [0], wrapped, |r, n, spots, k| ring_refill(r, n, k))),
+        both!("append", MOST, APPEND, HAND, |n| demanded(n, 0, 2), (Rings, [], paired, |p, n, spots, k| pair_append(p, k))),
+        both!("clone", MOST, CLONE, HAND, |n| demanded(n, 1, 0), (Rings, [], paired, |p, n, spots, k| pair_clone(p, k))),
         both!("sameness", MOST_SAME, SAME, SAME_HAND, (Turned, [], twins, |a, n, spots, k| alike(a, k))),
         both!("sameness, last entry differs", MOST_SAME, SAME, SAME_HAND, (Nearly, [], twins, |a, n, spots, k| alike(a, k))),
         both!("sameness with a vector", MOST_SAME, SAME, SAME_HAND, (Mixed, [], twins, |a, n, spots, k| alike(a, k))),

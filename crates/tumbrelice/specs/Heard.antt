@@ -113,7 +113,7 @@ pub record HearsMade (k : Kind) (m : Making) (slots : List ℕ) (word : ℕ) (af
   pub slot : slotIn word ≡ noSlot
   pub total : after .total ≡ totalMade k m slots
 
--- of from_iter, which fills a vector by the cursor u, comes to be v, and leaves the container that it walks
+-- of from_iter, which fills a vector by the cursor u, leaves the cursor at v, and leaves the container that it walks
 pub record HearsInto (k : Kind) (u : Cursor) (b before2 : Held) (word : ℕ) (v : Cursor) (after2 : Held) : Type 0 where
   pub row : heardInto word (b .tray) (after2 .tray) v ≡ does2 k vector (fromIter u) (b .tray) (before2 .tray)
   pub slot : slotIn word ≡ noSlot

@@ -1,4 +1,4 @@
-// The calls on a ring. Its state is its head, its length, its total; what a call leaves as it was is not stored, and a refused call stores nothing.
+// The calls on a ring. Its state is its head, its length, its total. A refused call stores none of them, and a call that never moves the head or the length does not store it.
 use super::ring_in;
 use super::ring_out;
 use super::ring_stays;

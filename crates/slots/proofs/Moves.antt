@@ -5,11 +5,11 @@ use mathlib.Core.Logic.{⊎-elim}
 use Prim.Native.Nat.{ℕ, _+_, _-_, _≤_, _<_}
 use native.Mathlib.Omega.{arith}
 use borrow.Author.Tests.{lt-ltb, le-ltb, lt-leb, le-leb, eq-eqb, ne-eqb}
-use lib.Dec.{ltb, leb}
-use Rattle.slots.specs.Count.{one, tally}
+use lib.Dec.{ltb, leb, eqb}
+use Rattle.slots.specs.Count.{tally}
 use Rattle.slots.specs.Moves.{Carried, to, gone, stay, inserted, removed, swapped, replaced, kept, elsewhere, moved}
 use Rattle.slots.proofs.Words.{below?, same?}
-use Rattle.slots.proofs.Sums.{sum-cong, tally-none, tally-run}
+use Rattle.slots.proofs.Sums.{tally-cong, tally-none, tally-run, tally-both}
 
 -- an entry that is carried to its own slot, to another, or out of the list
 home : (now : ℕ → ℕ) (s k : ℕ) (c : Carried) → c ≡ to k → now k ≡ s → elsewhere now s c ≡ false
@@ -69,8 +69,8 @@ removed-high i j h = rw (ne-eqb j i (omega arith), le-ltb j i (omega arith))
 -- the count, where it is known of each position whether its entry takes another slot
 pub moved-each : (was now : ℕ → ℕ) (carry : ℕ → Carried) (n : ℕ) (test : ℕ → Bool) → ((j : ℕ) → j < n → elsewhere now (was j) (carry j) ≡ test j)
     → moved was now carry n ≡ tally n test
-unfolding moved tally
-moved-each was now carry n test each = sum-cong n _ _ (λ j h. ap one (each j h))
+unfolding moved
+moved-each was now carry n test each = tally-cong n _ test each
 
 -- how many positions are before i, from i on, and past it
 pub tally-before : (n i : ℕ) → i ≤ n → tally n (λ j. ltb j i) ≡ i
@@ -85,8 +85,19 @@ tally-past n i h =
     tally-run n (i + 1) n _ (omega arith) (omega arith) (λ j g _. lt-ltb i j (omega arith)) (λ j l. le-ltb i j (omega arith)) (λ j g l. absurd (omega arith))
     ∙ omega arith
 
+-- all of them, and all but one
+pub tally-all : (n : ℕ) → tally n (λ j. true) ≡ n
+tally-all n = tally-run n 0 n _ (omega arith) (omega arith) (λ j _ _. refl) (λ j l. absurd (omega arith)) (λ j g l. absurd (omega arith)) ∙ omega arith
+
+pub tally-but : (n i : ℕ) → i < n → tally n (λ j. not (eqb j i)) ≡ n - 1
+tally-but n i h =
+    let here : tally n (λ j. eqb j i) ≡ i + 1 - i =
+    tally-run n i (i + 1) _ (omega arith) (omega arith)
+    (λ j g l. eq-eqb j i (omega arith)) (λ j l. ne-eqb j i (omega arith)) (λ j g l. ne-eqb j i (omega arith)) in
+    omega (arith, tally-both n (λ j. eqb j i))
+
 module _ (was now : ℕ → ℕ) (n i : ℕ) where
-  -- insert: the entries before i take other slots and the rest keep theirs, or the other way round
+  -- insert: the entries before i take other slots and the rest keep theirs, or the other way round, or all take others
   pub insert-low-each : ((j : ℕ) → j < i → now j ≡ was j → ⊥) → ((j : ℕ) → i ≤ j → j < n → now (j + 1) ≡ was j)
       → (j : ℕ) → j < n → elsewhere now (was j) (inserted i j) ≡ ltb j i
   insert-low-each go keep j h =
@@ -101,6 +112,14 @@ module _ (was now : ℕ → ℕ) (n i : ℕ) where
       ⊎-elim
       (λ (low : j < i). home now _ j _ (inserted-low i j low) (keep j low) ∙ sym (lt-leb i j low))
       (λ (high : i ≤ j). away now _ (j + 1) _ (inserted-high i j high) (go j high h) ∙ sym (le-leb i j high))
+      (below? j i)
+
+  pub insert-all-each : ((j : ℕ) → j < i → now j ≡ was j → ⊥) → ((j : ℕ) → i ≤ j → j < n → now (j + 1) ≡ was j → ⊥)
+      → (j : ℕ) → j < n → elsewhere now (was j) (inserted i j) ≡ true
+  insert-all-each go go′ j h =
+      ⊎-elim
+      (λ (low : j < i). away now _ j _ (inserted-low i j low) (go j low))
+      (λ (high : i ≤ j). away now _ (j + 1) _ (inserted-high i j high) (go′ j high h))
       (below? j i)
 
   -- remove, in the same way
@@ -131,6 +150,24 @@ module _ (was now : ℕ → ℕ) (n i : ℕ) where
       (λ j l. home now _ j _ refl (keep j l) ∙ sym (le-ltb i j (omega arith)))
       (le-ltb i i (omega arith))
       (λ j l h. away now _ (j - 1) _ refl (go j l h) ∙ sym (lt-ltb i j l))
+
+  pub remove-all-each : ((j : ℕ) → j < i → now j ≡ was j → ⊥) → ((j : ℕ) → i < j → j < n → now (j - 1) ≡ was j → ⊥)
+      → (j : ℕ) → j < n → elsewhere now (was j) (removed i j) ≡ not (eqb j i)
+  remove-all-each go go′ =
+      remove-each (λ j. not (eqb j i))
+      (λ j l. away now _ j _ refl (go j l) ∙ ap not (sym (ne-eqb j i (omega arith))))
+      (ap not (eq-eqb i i refl))
+      (λ j l h. away now _ (j - 1) _ refl (go′ j l h) ∙ ap not (sym (ne-eqb j i (omega arith))))
+
+-- THE SLOTS ALONE are counted: two layouts that have the entries that remain in the same slots have the same count.
+as-laid : (now now′ : ℕ → ℕ) (s : ℕ) (c : Carried) → ((k : ℕ) → c ≡ to k → now k ≡ now′ k) → elsewhere now s c ≡ elsewhere now′ s c
+as-laid now now′ s (to k) same = rw (same k refl)
+as-laid now now′ s gone same = refl
+
+pub moved-laid : (was now now′ : ℕ → ℕ) (carry : ℕ → Carried) (n : ℕ) → ((j k : ℕ) → j < n → carry j ≡ to k → now k ≡ now′ k)
+    → moved was now carry n ≡ moved was now′ carry n
+unfolding moved
+moved-laid was now now′ carry n same = moved-each was now carry n _ (λ j h. as-laid now now′ (was j) (carry j) (λ k. same j k h))
 
 -- swap_remove moves the last to i, unless it is i
 pub swapped-here : (i n j : ℕ) → j ≡ i → swapped i n j ≡ gone

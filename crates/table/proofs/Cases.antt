@@ -9,6 +9,7 @@ pub mod WorkedTwo
 pub mod WorkedSame
 pub mod WorkedMakings
 pub mod WorkedCarrying
+pub mod WorkedBest
 pub mod WorkedLedger
 pub mod WorkedKinds
 pub mod Run

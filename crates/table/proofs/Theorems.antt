@@ -5,6 +5,9 @@ pub mod Numbers
 pub mod Order
 pub mod Refused
 pub mod Moves
+pub mod Sides
+pub mod Best
+pub mod BestLayout
 pub mod Reported
 pub mod Totals
 pub mod Sums

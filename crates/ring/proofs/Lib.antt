@@ -5,5 +5,6 @@ pub mod Ours
 pub mod Once
 pub mod Upstream
 pub mod Home
+pub mod Best
 pub mod Lamp
 pub mod Sum

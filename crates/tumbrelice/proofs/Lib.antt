@@ -12,3 +12,4 @@ pub mod OnceLooked
 pub mod Ours
 pub mod OursTwo
 pub mod OursLooked
+pub mod Best

@@ -1,4 +1,5 @@
 // The Rust side of the comparison: makes cases of `replay`, answers them with VecDeque, Vec and paper 01's rules, and compares.
+mod best;
 mod by_hand;
 mod compare;
 mod damaged;
@@ -23,6 +24,7 @@ use std::process::exit;
 
 const USAGE: &str = "oracle selfcheck             paper 01's trays and a few more, against results written by hand; wrong rules of a total
 oracle fixed DIR             writes the fixed list: DIR/stdin and what it must print, DIR/stdout
+oracle best REPLAY           tries on all small rings that no layout moves fewer plates than an insertion or removal does
 oracle compare REPLAY [M]    compares the program REPLAY on all short cases and on random ones, M million calls in all (5)
 oracle answer                prints what the lines of the input must print";
 
@@ -32,6 +34,7 @@ fn main() {
     let done = match args[..] {
         ["selfcheck"] => selfcheck::run(),
         ["fixed", dir] => fixed::run(dir),
+        ["best", replay] => best::run(replay),
         ["compare", replay] => compare::run(replay, 5.0),
         ["compare", replay, millions] => match millions.parse() {
             Ok(millions) => compare::run(replay, millions),

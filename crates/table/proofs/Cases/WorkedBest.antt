@@ -11,11 +11,11 @@ use Rattle.slots.specs.Moves.{moved, inserted, removed}
 use Rattle.table.specs.Tray.{Tray, valid}
 use Rattle.table.specs.Calls.{Call, insert, remove}
 use Rattle.table.proofs.Theorems.Trays.{tray, W}
-use Rattle.table.proofs.Theorems.Sides.{beginningAt}
+use Rattle.table.proofs.Theorems.Sides.{withHead}
 
 -- with the head in slot 0, 1, 2 and 3 of four
 abbrev four : Call → Tray → List ℕ
-four call t = beginningAt call t 0 ∷ beginningAt call t 1 ∷ beginningAt call t 2 ∷ beginningAt call t 3 ∷ []
+four call t = withHead call t 0 ∷ withHead call t 1 ∷ withHead call t 2 ∷ withHead call t 3 ∷ []
 
 -- W has its head in slot 2. It stays there, or goes to slot 1 for an insertion and to slot 3 for a removal; with another head all that remain move.
 on-W :
@@ -46,8 +46,8 @@ from-full = (refl, refl, refl)
 
 -- One slot is a head for itself; and where nothing is left, head 0 alone is valid.
 only-one :
-    (beginningAt (insert 0 8) (tray 0 0 (5 ∷ [])) 0 ≡ 0)
-    × (beginningAt (remove 0) (tray 0 1 (5 ∷ [])) 0 ≡ 0)
+    (withHead (insert 0 8) (tray 0 0 (5 ∷ [])) 0 ≡ 0)
+    × (withHead (remove 0) (tray 0 1 (5 ∷ [])) 0 ≡ 0)
     × (valid ring 1 0 1 ≡ true)
     × (valid ring 1 1 1 ≡ false)
     × (valid ring 4 0 0 ≡ true)

@@ -6,7 +6,7 @@
 use Prim.Native.Nat.{ℕ, _+_, _-_, min, _≤_, _<_}
 use mathlib.Core.Path.{_≡_, refl, sym, ap, _∙_}
 use mathlib.Core.Bool.{true}
-use mathlib.Core.Logic.{inl, inr}
+use mathlib.Core.Logic.{inl, inr, ⊎-elim}
 use native.Mathlib.Omega.{arith}
 use Rattle.slots.specs.Layout.{ring, place}
 use Rattle.slots.specs.Moves.{moved, inserted, removed}
@@ -24,7 +24,7 @@ use Rattle.table.proofs.Theorems.Refused.{call-clear}
 use Rattle.table.proofs.Theorems.StaysValid.{valid-of, call-leaves}
 use Rattle.table.proofs.Theorems.Listed.{call-listed}
 use Rattle.table.proofs.Theorems.Sides as sides
-use Rattle.table.proofs.Theorems.Sides.{beginningAt, Counts, insert-counts, remove-counts, AsGood}
+use Rattle.table.proofs.Theorems.Sides.{withHead, Counts, insert-counts, remove-counts, AsGood}
 
 -- the new list, begun in slot g, is a valid ring's
 abbrev pub Permitted : Tray → Outcome → ℕ → Type 0
@@ -43,11 +43,11 @@ any-slot t o h g p some lt =
 pub record Another (call : Call) (t : Tray) (o : Outcome) (g : ℕ) : Type 0 where
   pub permitted : Permitted t o g
   pub apart : g ≡ o .tray .head → ⊥
-  pub tied : beginningAt call t g ≡ o .moves
+  pub tied : withHead call t g ≡ o .moves
 
 -- What is the same of both calls: h′ is the head one slot away, and a and b of the remaining entries stand before the place and behind it.
 record Sided (call : Call) (t : Tray) (o : Outcome) (h′ a b : ℕ) : Type 0 where
-  counts : (g : ℕ) → Permitted t o g → Counts (t .head) h′ a b g (beginningAt call t g)
+  counts : (g : ℕ) → Permitted t o g → Counts (t .head) h′ a b g (withHead call t g)
   shorter : o .moves ≡ min a b
   front : a < b → o .tray .head ≡ h′
   back : b ≤ a → 0 < o .tray .len → o .tray .head ≡ t .head
@@ -58,16 +58,16 @@ module _ (call : Call) (t : Tray) (o : Outcome) (h′ a b : ℕ) (s : Sided call
   stays le some = s .back le (omega (arith, s .left))
 
   module _ (g : ℕ) (p : Permitted t o g) where
-    sided-best : o .moves ≤ beginningAt call t g
+    sided-best : o .moves ≤ withHead call t g
     sided-best = rw (s .shorter) (sides.none-fewer _ _ _ _ _ _ (s .counts g p))
 
-    sided-good : AsGood (o .tray .head) h′ a b g → beginningAt call t g ≡ o .moves
+    sided-good : AsGood (o .tray .head) h′ a b g → withHead call t g ≡ o .moves
     sided-good good = rw (s .shorter) (sides.is-good _ _ _ _ _ _ (s .counts g p) _ (s .front) stays good)
 
-    sided-only : beginningAt call t g ≡ o .moves → AsGood (o .tray .head) h′ a b g
+    sided-only : withHead call t g ≡ o .moves → AsGood (o .tray .head) h′ a b g
     sided-only tie = sides.as-good _ _ _ _ _ _ (s .counts g p) _ (s .front) stays (tie ∙ s .shorter)
 
-    sided-more : (a ≡ b → ⊥) → (g ≡ o .tray .head → ⊥) → o .moves < beginningAt call t g
+    sided-more : (a ≡ b → ⊥) → (g ≡ o .tray .head → ⊥) → o .moves < withHead call t g
     sided-more uneven ne = rw (s .shorter) (sides.all-more _ _ _ _ _ _ (s .counts g p) _ (s .front) stays uneven ne)
 
   sided-tie : a ≡ b → 0 < o .tray .len → Permitted t o h′ → (h′ ≡ t .head → ⊥) → Another call t o h′
@@ -76,6 +76,9 @@ module _ (call : Call) (t : Tray) (o : Outcome) (h′ a b : ℕ) (s : Sided call
     apart = λ e. ne (e ∙ s .back (omega arith) some);
     tied = sided-good h′ p (inr (even, inl refl));
   }
+
+  sided-even : (g : ℕ) → Another call t o g → a ≡ b
+  sided-even g other = ⊎-elim (λ e. absurd (other .apart e)) (λ alike. alike .0) (sided-only g (other .permitted) (other .tied))
 
 -- INSERT and REMOVE. Here and below o is what is seen of a call, as its promise says.
 one-more : (t : Tray) (i x : ℕ) (o : Outcome) → o ≡ does ring (insert i x) t → o .number ≡ 0 → o .tray .len ≡ t .len + 1
@@ -120,13 +123,13 @@ module _ (t : Tray) (i x : ℕ) (o : Outcome) (promised : o ≡ does ring (inser
   pub insert-best : o .moves ≤ moved (place ring (cap t) (t .head)) (place ring (cap t) g) (inserted i) (t .len)
   insert-best = sided-best _ t o _ _ _ (insert-sided t i x o promised done) g permitted
 
-  pub insert-as-good : AsGood (o .tray .head) (headBack (cap t) (t .head)) i (t .len - i) g → beginningAt (insert i x) t g ≡ o .moves
+  pub insert-as-good : AsGood (o .tray .head) (headBack (cap t) (t .head)) i (t .len - i) g → withHead (insert i x) t g ≡ o .moves
   insert-as-good = sided-good _ t o _ _ _ (insert-sided t i x o promised done) g permitted
 
-  pub insert-only-these : beginningAt (insert i x) t g ≡ o .moves → AsGood (o .tray .head) (headBack (cap t) (t .head)) i (t .len - i) g
+  pub insert-only-these : withHead (insert i x) t g ≡ o .moves → AsGood (o .tray .head) (headBack (cap t) (t .head)) i (t .len - i) g
   insert-only-these = sided-only _ t o _ _ _ (insert-sided t i x o promised done) g permitted
 
-  pub insert-all-more : (i ≡ t .len - i → ⊥) → (g ≡ o .tray .head → ⊥) → o .moves < beginningAt (insert i x) t g
+  pub insert-all-more : (i ≡ t .len - i → ⊥) → (g ≡ o .tray .head → ⊥) → o .moves < withHead (insert i x) t g
   insert-all-more = sided-more _ t o _ _ _ (insert-sided t i x o promised done) g permitted
 
 -- REMOVE, in the same words.
@@ -134,21 +137,21 @@ module _ (t : Tray) (i : ℕ) (o : Outcome) (promised : o ≡ does ring (remove 
   pub remove-best : o .moves ≤ moved (place ring (cap t) (t .head)) (place ring (cap t) g) (removed i) (t .len)
   remove-best = sided-best _ t o _ _ _ (remove-sided t i o promised done) g permitted
 
-  pub remove-as-good : AsGood (o .tray .head) (headOn (cap t) (t .head)) i (t .len - 1 - i) g → beginningAt (remove i) t g ≡ o .moves
+  pub remove-as-good : AsGood (o .tray .head) (headOn (cap t) (t .head)) i (t .len - 1 - i) g → withHead (remove i) t g ≡ o .moves
   remove-as-good = sided-good _ t o _ _ _ (remove-sided t i o promised done) g permitted
 
-  pub remove-only-these : beginningAt (remove i) t g ≡ o .moves → AsGood (o .tray .head) (headOn (cap t) (t .head)) i (t .len - 1 - i) g
+  pub remove-only-these : withHead (remove i) t g ≡ o .moves → AsGood (o .tray .head) (headOn (cap t) (t .head)) i (t .len - 1 - i) g
   remove-only-these = sided-only _ t o _ _ _ (remove-sided t i o promised done) g permitted
 
-  pub remove-all-more : (i ≡ t .len - 1 - i → ⊥) → (g ≡ o .tray .head → ⊥) → o .moves < beginningAt (remove i) t g
+  pub remove-all-more : (i ≡ t .len - 1 - i → ⊥) → (g ≡ o .tray .head → ⊥) → o .moves < withHead (remove i) t g
   remove-all-more = sided-more _ t o _ _ _ (remove-sided t i o promised done) g permitted
 
 -- EVERY CALL of a ring that is done: its moves are the count with the head that it leaves, which is permitted, and no permitted head has a smaller one. What
 -- moves nothing can't be bettered.
 pub record Least (call : Call) (t : Tray) (o : Outcome) : Type 0 where
   pub permitted : Permitted t o (o .tray .head)
-  pub counted : o .moves ≡ beginningAt call t (o .tray .head)
-  pub least : (g : ℕ) → Permitted t o g → o .moves ≤ beginningAt call t g
+  pub counted : o .moves ≡ withHead call t (o .tray .head)
+  pub least : (g : ℕ) → Permitted t o g → o .moves ≤ withHead call t g
 
 module _ (call : Call) (t : Tray) (o : Outcome) (promised : o ≡ does ring call t) (of : has call ring ≡ true) (done : o .number ≡ 0) where
   moves-in : o .moves ≡ movesIn ring (t .len) call
@@ -168,7 +171,7 @@ module _ (call : Call) (t : Tray) (o : Outcome) (promised : o ≡ does ring call
       }))
 
 none-less : (call : Call) (t : Tray) (o : Outcome) → o ≡ does ring call t → has call ring ≡ true → o .number ≡ 0
-    → (g : ℕ) → Permitted t o g → o .moves ≤ beginningAt call t g
+    → (g : ℕ) → Permitted t o g → o .moves ≤ withHead call t g
 none-less (insert i x) t o promised of done g p = insert-best t i x o promised done g p
 none-less (remove i) t o promised of done g p = remove-best t i o promised done g p
 none-less (push x) t o promised of done g p = omega (arith, moves-in (push x) t o promised of done)
@@ -190,7 +193,8 @@ best call t o promised of done = record {
   least = none-less call t o promised of done;
 }
 
--- ANOTHER HEAD THAT DOES AS WELL there is wherever as many stand on either side, and there is another slot to begin in: 'fewer than all others' would be false.
+-- ANOTHER HEAD THAT DOES AS WELL there is where as many stand on either side, if there is another slot to begin in, and nowhere else: 'fewer than all
+-- others' would be false.
 pub insert-another : (t : Tray) (i x : ℕ) (o : Outcome) → o ≡ does ring (insert i x) t → o .number ≡ 0 → i ≡ t .len - i → 1 < cap t
     → Another (insert i x) t o (headBack (cap t) (t .head))
 insert-another t i x o promised done even more =
@@ -200,6 +204,10 @@ insert-another t i x o promised done even more =
     sided-tie _ t o _ _ _ s even some
     (any-slot t o _ _ (best (insert i x) t o promised refl done .permitted) some (slot-inside (cap t) (t .head) (cap t - 1) inside))
     (slot-away (cap t) (t .head) (cap t - 1) inside (omega arith) (omega arith))
+
+pub insert-another-even : (t : Tray) (i x : ℕ) (o : Outcome) → o ≡ does ring (insert i x) t → o .number ≡ 0
+    → (g : ℕ) → Another (insert i x) t o g → i ≡ t .len - i
+insert-another-even t i x o promised done = sided-even _ t o _ _ _ (insert-sided t i x o promised done)
 
 pub remove-another : (t : Tray) (i : ℕ) (o : Outcome) → o ≡ does ring (remove i) t → o .number ≡ 0 → i ≡ t .len - 1 - i → 1 < t .len
     → Another (remove i) t o (headOn (cap t) (t .head))
@@ -212,3 +220,7 @@ remove-another t i o promised done even more =
     sided-tie _ t o _ _ _ s even some
     (any-slot t o _ _ (best (remove i) t o promised refl done .permitted) some (slot-inside (cap t) (t .head) 1 inside))
     (slot-away (cap t) (t .head) 1 inside (omega arith) wide)
+
+pub remove-another-even : (t : Tray) (i : ℕ) (o : Outcome) → o ≡ does ring (remove i) t → o .number ≡ 0
+    → (g : ℕ) → Another (remove i) t o g → i ≡ t .len - 1 - i
+remove-another-even t i o promised done = sided-even _ t o _ _ _ (remove-sided t i o promised done)

@@ -21,7 +21,7 @@ use Rattle.table.specs.Does.{Outcome, does}
 use Rattle.table.proofs.Laws.Done.{many, row-carries}
 use Rattle.table.proofs.Theorems.Refused.{call-clear}
 use Rattle.table.proofs.Theorems.Listed.{call-listed}
-use Rattle.table.proofs.Theorems.Sides.{laidOut}
+use Rattle.table.proofs.Theorems.Sides.{withLayout}
 use Rattle.table.proofs.Theorems.Best.{any-slot, best}
 
 -- n entries in ring order: each stands in the slot after that of the entry before it, slot 0 coming after the last one
@@ -42,7 +42,7 @@ head-ordered c n g lt = record { first = λ some. slot-inside c g 0 lt; next = �
 module _ (call : Call) (t : Tray) (o : Outcome) (promised : o ≡ does ring call t) (of : has call ring ≡ true) (done : o .number ≡ 0) where
   -- an entry is carried to a position of the new list, so only the slots of these are counted
   same-laid : (lay lay′ : ℕ → ℕ) → ((p : ℕ) → p < o .tray .len → lay p ≡ lay′ p)
-      → laidOut call t lay ≡ laidOut call t lay′
+      → withLayout call t lay ≡ withLayout call t lay′
   same-laid lay lay′ same =
       let carries = row-carries ring t call (call-clear ring call t o promised done .1) in
       let len = call-listed ring call t o promised done .tray .len in
@@ -50,7 +50,7 @@ module _ (call : Call) (t : Tray) (o : Outcome) (promised : o ≡ does ring call
 
   -- EVERY LAYOUT IN RING ORDER of the new list
   pub best-laid : (lay : ℕ → ℕ) → RingOrder (cap t) (o .tray .len) lay
-      → o .moves ≤ laidOut call t lay
+      → o .moves ≤ withLayout call t lay
   best-laid lay r =
       let b = best call t o promised of done in
       ⊎-elim
@@ -61,7 +61,7 @@ module _ (call : Call) (t : Tray) (o : Outcome) (promised : o ≡ does ring call
 
   -- EVERY VALID RING of that capacity that holds the new list
   pub best-ring : (u : Tray) → invalid ring u ≡ false → cap u ≡ cap t → list ring u ≡ after call (list ring t)
-      → o .moves ≤ laidOut call t (place ring (cap u) (u .head))
+      → o .moves ≤ withLayout call t (place ring (cap u) (u .head))
   best-ring u ok slots holds =
       let len : u .len ≡ o .tray .len = sym (many ring u) ∙ ap length holds ∙ sym (call-listed ring call t o promised done .tray .len) in
       let good : valid ring (cap u) (u .head) (u .len) ≡ true = not-false _ ok in

@@ -19,22 +19,22 @@ use Rattle.table.proofs.Theorems.Moves.{insert-high, insert-low, remove
 
 -- how many of the remaining entries change their slot, by the call's carrying, if the new list is laid out so, position p in slot lay p; and if it begins
 -- in slot g
-abbrev pub laidOut : Call → Tray → (lay : ℕ → ℕ) → ℕ
-laidOut call t lay = moved (place ring (cap t) (t .head)) lay (rowOf ring call t .carry) (t .len)
+abbrev pub withLayout : Call → Tray → (lay : ℕ → ℕ) → ℕ
+withLayout call t lay = moved (place ring (cap t) (t .head)) lay (rowOf ring call t .carry) (t .len)
 
-abbrev pub beginningAt : Call → Tray → (g : ℕ) → ℕ
-beginningAt call t g = laidOut call t (place ring (cap t) g)
+abbrev pub withHead : Call → Tray → (g : ℕ) → ℕ
+withHead call t g = withLayout call t (place ring (cap t) g)
 
 -- EACH HEAD'S COUNT w, where a of the remaining entries stand before the place and b behind it: those behind move if the head stays at h; those before do
--- if it goes along to o, one slot away; all do with any other.
-pub record Counts (h o a b g w : ℕ) : Type 0 where
+-- if it goes along to h′, one slot away; all do with any other.
+pub record Counts (h h′ a b g w : ℕ) : Type 0 where
   pub stays : g ≡ h → w ≡ b
-  pub goes : g ≡ o → w ≡ a
-  pub other : (g ≡ h → ⊥) → (g ≡ o → ⊥) → w ≡ a + b
+  pub goes : g ≡ h′ → w ≡ a
+  pub other : (g ≡ h → ⊥) → (g ≡ h′ → ⊥) → w ≡ a + b
 
 module _ (t : Tray) (ok : invalid ring t ≡ false) where
   pub insert-counts : (i x g : ℕ) → i ≤ t .len → t .len < cap t → g < cap t
-      → Counts (t .head) (headBack (cap t) (t .head)) i (t .len - i) g (beginningAt (insert i x) t g)
+      → Counts (t .head) (headBack (cap t) (t .head)) i (t .len - i) g (withHead (insert i x) t g)
   insert-counts i x g fits room lt =
       let c : ℕ = cap t in
       let h : ℕ = t .head in
@@ -50,7 +50,7 @@ module _ (t : Tray) (ok : invalid ring t ≡ false) where
       }
 
   pub remove-counts : (i g : ℕ) → i < t .len → g < cap t
-      → Counts (t .head) (headOn (cap t) (t .head)) i (t .len - 1 - i) g (beginningAt (remove i) t g)
+      → Counts (t .head) (headOn (cap t) (t .head)) i (t .len - 1 - i) g (withHead (remove i) t g)
   remove-counts i g fits lt =
       let c : ℕ = cap t in
       let h : ℕ = t .head in
@@ -67,16 +67,16 @@ module _ (t : Tray) (ok : invalid ring t ≡ false) where
       }
 
 -- A HEAD THAT DOES AS WELL as the one chosen: it is that one; or there are as many on either side, and it is the other side's, or nobody is there to move.
-abbrev pub AsGood : (chosen o a b g : ℕ) → Type 0
-AsGood chosen o a b g = (g ≡ chosen) ⊎ ((a ≡ b) × ((g ≡ o) ⊎ (a ≡ 0)))
+abbrev pub AsGood : (chosen h′ a b g : ℕ) → Type 0
+AsGood chosen h′ a b g = (g ≡ chosen) ⊎ ((a ≡ b) × ((g ≡ h′) ⊎ (a ≡ 0)))
 
 -- From the counts: none is below that of the shorter side.
-module _ (h o a b g w : ℕ) (counts : Counts h o a b g w) where
-  three-ways : {P : Type 0} → (g ≡ h → w ≡ b → P) → (g ≡ o → w ≡ a → P) → (w ≡ a + b → P) → P
+module _ (h h′ a b g w : ℕ) (counts : Counts h h′ a b g w) where
+  three-ways : {P : Type 0} → (g ≡ h → w ≡ b → P) → (g ≡ h′ → w ≡ a → P) → (w ≡ a + b → P) → P
   three-ways stays goes other =
       ⊎-elim
       (λ (e : g ≡ h). stays e (counts .stays e))
-      (λ (ne : g ≡ h → ⊥). ⊎-elim (λ (e : g ≡ o). goes e (counts .goes e)) (λ (ne′ : g ≡ o → ⊥). other (counts .other ne ne′)) (same? g o))
+      (λ (ne : g ≡ h → ⊥). ⊎-elim (λ (e : g ≡ h′). goes e (counts .goes e)) (λ (ne′ : g ≡ h′ → ⊥). other (counts .other ne ne′)) (same? g h′))
       (same? g h)
 
   pub none-fewer : min a b ≤ w
@@ -87,7 +87,7 @@ module _ (h o a b g w : ℕ) (counts : Counts h o a b g w) where
 
   -- The head chosen is the shorter side's. Where the sides differ, every other head comes to more. One that comes to the same is as good as the chosen one,
   -- and one as good comes to the same.
-  module _ (chosen : ℕ) (front : a < b → chosen ≡ o) (back : b ≤ a → 0 < a + b → chosen ≡ h) where
+  module _ (chosen : ℕ) (front : a < b → chosen ≡ h′) (back : b ≤ a → 0 < a + b → chosen ≡ h) where
     pub all-more : (a ≡ b → ⊥) → (g ≡ chosen → ⊥) → min a b < w
     all-more uneven ne =
         ⊎-elim
@@ -95,20 +95,20 @@ module _ (h o a b g w : ℕ) (counts : Counts h o a b g w) where
         (λ (ge : b ≤ a). three-ways (λ e q. absurd (ne (e ∙ sym (back (omega arith) (omega arith))))) (λ e q. omega arith) (λ q. omega arith))
         (below? a b)
 
-    pub as-good : w ≡ min a b → AsGood chosen o a b g
+    pub as-good : w ≡ min a b → AsGood chosen h′ a b g
     as-good tie =
         ⊎-elim
         (λ (even : a ≡ b).
         ⊎-elim
-        (λ (none : a ≡ 0). inr (even, inr none))
+        (λ (none : a ≡ 0). inr (omega arith, inr none))
         (λ (some : a ≡ 0 → ⊥).
-        three-ways (λ e q. inl (e ∙ sym (back (omega arith) (omega arith)))) (λ e q. inr (even, inl e)) (λ q. absurd (some (omega arith))))
+        three-ways (λ e q. inl (e ∙ sym (back (omega arith) (omega arith)))) (λ e q. inr (omega arith, inl e)) (λ q. absurd (some (omega arith))))
         (same? a 0))
         (λ (uneven : a ≡ b → ⊥).
         ⊎-elim (λ (e : g ≡ chosen). inl e) (λ (ne : g ≡ chosen → ⊥). absurd (omega (arith, all-more uneven ne))) (same? g chosen))
         (same? a b)
 
-    pub is-good : AsGood chosen o a b g → w ≡ min a b
+    pub is-good : AsGood chosen h′ a b g → w ≡ min a b
     is-good =
         ⊎-elim
         (λ (e : g ≡ chosen).
@@ -120,9 +120,9 @@ module _ (h o a b g w : ℕ) (counts : Counts h o a b g w) where
         (λ (none : a + b ≤ 0). nobody-there (omega arith))
         (below? 0 (a + b)))
         (below? a b))
-        (λ (alike : (a ≡ b) × ((g ≡ o) ⊎ (a ≡ 0))).
+        (λ alike.
         let even = alike .0 in
         ⊎-elim
-        (λ (e : g ≡ o). omega (arith, counts .goes e))
+        (λ (e : g ≡ h′). omega (arith, counts .goes e))
         (λ (none : a ≡ 0). nobody-there (omega arith))
         (alike .1))

@@ -1,5 +1,5 @@
 -- The laws that the proofs of the ring's functions cite, what ties its calls to demand 3, that each has one answer, upstream's clauses, an empty
--- ring's head, and the slot that is reported.
+-- ring's head, the best head, the slot that is reported, and the total.
 pub mod Told
 pub mod Ours
 pub mod Once

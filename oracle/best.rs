@@ -18,6 +18,7 @@ const FREE: u32 = 0xf0; // free slot k holds FREE + k; plate j, of those that ar
 struct Case {
     cap: usize,
     head: usize,
+    len: usize,
     act: Act,
     at: usize,
     stood: Vec<Option<usize>>, // of each plate of the new row: the slot where it stood, if it was there
@@ -39,7 +40,7 @@ pub fn run(replay: &str) -> Result<(), String> {
     let cases = answered(replay)?;
     let mut sum = Sum::default();
     for case in &cases {
-        let named = |says| format!("{:?} at {}, {} plates from slot {} of {}: {says}", case.act, case.at, case.before() + case.behind(), case.head, case.cap);
+        let named = |says| format!("{:?} at {}, {} plates from slot {} of {}: {says}", case.act, case.at, case.len, case.head, case.cap);
         case.heads(&mut sum).map_err(named)?;
         case.layouts(&mut sum).map_err(named)?;
         for (words, wrong) in case.wrong() {
@@ -111,7 +112,7 @@ fn case<'a>(s: State, act: Act, at: u64, lines: &mut impl Iterator<Item = &'a st
     let stands: Option<Vec<usize>> = row.iter().map(|&plate| find(&now, plate)).collect();
     let &[0, _, moves, chosen, ..] = &says[..] else { return None };
     let stood = row.iter().map(|&plate| find(&was, plate)).collect();
-    Some(Case { cap: s.cap as usize, head: s.head as usize, act, at: at as usize, stood, stands: stands?, chosen, moves })
+    Some(Case { cap: s.cap as usize, head: s.head as usize, len: s.len as usize, act, at: at as usize, stood, stands: stands?, chosen, moves })
 }
 
 impl Case {
@@ -121,7 +122,7 @@ impl Case {
     }
 
     fn behind(&self) -> usize {
-        self.stood.iter().flatten().count() - self.at
+        self.len - self.at - (self.act == Remove) as usize
     }
 
     // The head one slot away, which goes with the plates before the place.

@@ -159,6 +159,15 @@ module _ (was now : ℕ → ℕ) (n i : ℕ) where
       (ap not (eq-eqb i i refl))
       (λ j l h. away now _ (j - 1) _ refl (go′ j l h) ∙ ap not (sym (ne-eqb j i (omega arith))))
 
+-- NONE MOVES where each that remains stands in its old slot.
+stays-put : (now : ℕ → ℕ) (s : ℕ) (c : Carried) → ((k : ℕ) → c ≡ to k → now k ≡ s) → elsewhere now s c ≡ false
+stays-put now s (to k) same = home now s k (to k) refl (same k refl)
+stays-put now s gone same = refl
+
+pub moved-put : (was now : ℕ → ℕ) (carry : ℕ → Carried) (n : ℕ) → ((j k : ℕ) → j < n → carry j ≡ to k → now k ≡ was j) → moved was now carry n ≡ 0
+unfolding moved
+moved-put was now carry n same = tally-none n _ (λ j h. stays-put now (was j) (carry j) (λ k. same j k h))
+
 -- THE SLOTS ALONE are counted: two layouts that have the entries that remain in the same slots have the same count.
 as-laid : (now now′ : ℕ → ℕ) (s : ℕ) (c : Carried) → ((k : ℕ) → c ≡ to k → now k ≡ now′ k) → elsewhere now s c ≡ elsewhere now′ s c
 as-laid now now′ s (to k) same = rw (same k refl)

@@ -8,6 +8,7 @@ pub mod Moves
 pub mod Sides
 pub mod Best
 pub mod BestLayout
+pub mod NoRing
 pub mod Reported
 pub mod Totals
 pub mod Sums

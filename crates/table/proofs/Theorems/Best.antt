@@ -1,8 +1,9 @@
 -- No cleverer layout exists: wherever else the row of plates might begin once one goes in or comes out, no fewer of the others would change their slot.
 --
 -- That is request 07, of a ring's insert and remove that are done, for every head with which the new state is valid: every slot, or slot 0 alone if the ring
--- is left empty. Another head does as well only where as many plates stand on either side of the place. That the heads are all the layouts of a ring is
--- said in `BestLayout`, and there too what is not covered. A vector has no head to choose.
+-- is left empty. Another head does as well only where as many plates stand on either side of the place. The heads are all the layouts of a ring
+-- (`BestLayout`). Not covered are layouts that are no ring, with a gap between two plates or in another order: nothing need move there, but head and length
+-- would no longer tell where the list stands (`NoRing`). Nor is a vector, which has no head to choose.
 use Prim.Native.Nat.{ℕ, _+_, _-_, min, _≤_, _<_}
 use mathlib.Core.Path.{_≡_, refl, sym, ap, _∙_}
 use mathlib.Core.Bool.{true}
@@ -81,10 +82,15 @@ module _ (call : Call) (t : Tray) (o : Outcome) (h′ a b : ℕ) (s : Sided call
   sided-even g other = ⊎-elim (λ e. absurd (other .apart e)) (λ alike. alike .0) (sided-only g (other .permitted) (other .tied))
 
 -- INSERT and REMOVE. Here and below o is what is seen of a call, as its promise says.
-one-more : (t : Tray) (i x : ℕ) (o : Outcome) → o ≡ does ring (insert i x) t → o .number ≡ 0 → o .tray .len ≡ t .len + 1
+pub one-more : (t : Tray) (i x : ℕ) (o : Outcome) → o ≡ does ring (insert i x) t → o .number ≡ 0 → o .tray .len ≡ t .len + 1
 one-more t i x o promised done =
     let e = call-clear ring (insert i x) t o promised done in
     call-listed ring (insert i x) t o promised done .tray .len ∙ longer ring t i x (omega passed-tests)
+
+pub one-less : (t : Tray) (i : ℕ) (o : Outcome) → o ≡ does ring (remove i) t → o .number ≡ 0 → o .tray .len ≡ t .len - 1
+one-less t i o promised done =
+    let e = call-clear ring (remove i) t o promised done in
+    call-listed ring (remove i) t o promised done .tray .len ∙ shorter ring t i (omega passed-tests)
 
 insert-sided : (t : Tray) (i x : ℕ) (o : Outcome) → o ≡ does ring (insert i x) t → o .number ≡ 0
     → Sided (insert i x) t o (headBack (cap t) (t .head)) i (t .len - i)
@@ -107,7 +113,7 @@ remove-sided : (t : Tray) (i : ℕ) (o : Outcome) → o ≡ does ring (remove i)
 remove-sided t i o promised done =
     let e = call-clear ring (remove i) t o promised done in
     let fits : i < t .len = omega passed-tests in
-    let len : o .tray .len ≡ t .len - 1 = call-listed ring (remove i) t o promised done .tray .len ∙ shorter ring t i fits in
+    let len = one-less t i o promised done in
     let head : o .tray .head ≡ does ring (remove i) t .tray .head = ap (λ o. o .tray .head) promised in
     record {
       counts = λ g p. remove-counts t (e .0) i g fits (permitted-slot t o g (omega (arith, fit ring t (e .0) .fits)) p);

@@ -1,8 +1,7 @@
 -- The heads are all the layouts there are: entries that stand one after another around the ring stand from some head on, so no such layout makes fewer of
 -- them change their slot than the one that the call leaves (request 07).
 --
--- Not covered are layouts that are no ring, with a gap between two entries or in another order. With these nothing need move at all, as
--- `Cases/WorkedBest` shows: an entry goes into any free slot, and one that is taken out leaves a gap. But then no head and length tell where the list stands.
+-- Not covered are layouts that are no ring, with a gap between two entries or in another order. With these nothing need move at all: `NoRing`.
 use Prim.Native.Nat.{ℕ, zero, suc, _≤_, _<_}
 use mathlib.Core.Path.{_≡_, sym, ap, _∙_}
 use mathlib.Core.Bool.{true, false}

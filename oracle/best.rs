@@ -1,13 +1,11 @@
 // Request 07, tried out: on every ring of up to 8 slots, with every insertion and removal that is done, the new row of plates is laid out from every slot, and
 // by every other layout too, and the plates that changed their slot are counted one by one. It is the statement that is tried, on what the program answers.
+use crate::compare;
 use crate::ops::{Act, Act::*, Kind::Ring, OPS};
 use crate::pen::{Batch, Pen};
 use crate::rules::{self, State};
 use crate::tally::Tally;
 use std::collections::VecDeque;
-use std::io::Write;
-use std::process::{Command, Stdio};
-use std::thread;
 
 const MOST: u64 = 8;
 const NEW: u32 = 0x99; // the plate that comes in
@@ -70,32 +68,25 @@ fn slots(s: State) -> Vec<u32> {
     slots
 }
 
-// All of them, put to the program.
-fn answered(replay: &str) -> Result<Vec<Case>, String> {
-    let (mut input, mut expected) = (Vec::new(), Vec::new());
-    {
-        let mut pen = Pen::new(usize::MAX, Tally::new(), |batch: Batch| (input, expected) = (batch.input, batch.expected));
-        for (s, act, at) in calls() {
-            pen.set_first(s.head, s.len, &slots(s));
-            pen.line(OPS.iter().find(|op| op.kind == Ring && op.act == act).unwrap().code, at, NEW as u64);
-        }
-        pen.flush();
+fn every(pen: &mut Pen) {
+    for (s, act, at) in calls() {
+        pen.set_first(s.head, s.len, &slots(s));
+        pen.line(OPS.iter().find(|op| op.kind == Ring && op.act == act).unwrap().code, at, NEW as u64);
     }
-    let came = fed(replay, input).map_err(|e| format!("{replay}: {e}"))?;
-    if came.as_bytes() != expected {
-        return Err("the program's answers are not those of Rust's own deque; oracle compare tells where".to_string());
-    }
-    let mut lines = came.lines();
-    calls().map(|(s, act, at)| case(s, act, at, &mut lines).ok_or(format!("no answer to {act:?} at {at} of {s:?}"))).collect()
 }
 
-fn fed(replay: &str, input: Vec<u8>) -> std::io::Result<String> {
-    let mut child = Command::new(replay).stdin(Stdio::piped()).stdout(Stdio::piped()).spawn()?;
-    let mut to = child.stdin.take().unwrap();
-    let writer = thread::spawn(move || to.write_all(&input));
-    let came = child.wait_with_output()?;
-    let _ = writer.join(); // a program that ended early is noticed by what it printed
-    Ok(String::from_utf8_lossy(&came.stdout).into_owned())
+// All of them, put to the program. Once it has said byte for byte what is expected, its answers are read from that.
+fn answered(replay: &str) -> Result<Vec<Case>, String> {
+    compare::agrees(replay, &every)?;
+    let mut expected = Vec::new();
+    {
+        let mut pen = Pen::new(usize::MAX, Tally::new(), |batch: Batch| expected = batch.expected);
+        every(&mut pen);
+        pen.flush();
+    }
+    let said = String::from_utf8(expected).map_err(|e| e.to_string())?;
+    let mut lines = said.lines();
+    calls().map(|(s, act, at)| case(s, act, at, &mut lines).ok_or(format!("no answer to {act:?} at {at} of {s:?}"))).collect()
 }
 
 // Number, value, moves and head are the first of an answer; the slots follow it, a line each.

@@ -43,6 +43,12 @@ pub fn run(replay: &str, millions: f64) -> Result<(), String> {
     if missing.is_empty() { Ok(()) } else { Err(format!("the cases lack something: {}", missing.join(", "))) }
 }
 
+// One run of the program on these cases alone.
+pub fn agrees(replay: &str, make: &(dyn Fn(&mut Pen) + Sync)) -> Result<(), String> {
+    thread::spawn(watch);
+    sitting(replay, BATCH, Tally::new(), make).map(|_| ())
+}
+
 // A program that prints nothing any more would keep the comparison waiting for ever.
 fn watch() {
     let (mut last, mut quiet) = (0, 0);

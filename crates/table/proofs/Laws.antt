@@ -18,3 +18,4 @@ pub mod Totalling
 pub mod Rows
 pub mod Keeps
 pub mod Named
+pub mod Within

@@ -11,4 +11,5 @@ pub mod Lent
 pub mod Tested
 pub mod Ledger
 pub mod Promise
+pub mod Within
 pub mod World

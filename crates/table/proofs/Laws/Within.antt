@@ -1,0 +1,103 @@
+-- What the code tests before an insertion or a removal with an allowance is whether the plain call would be done and would move more: there the answer is 12.
+use Prim.Native.Nat.{ℕ, min, _-_, _≤_, _<_}
+use mathlib.Core.Path.{_≡_, refl, sym, ap, _∙_}
+use mathlib.Core.Bool.{Bool, true, false, not, _&&_}
+use mathlib.Core.Logic.{⊎-elim}
+use native.Mathlib.Omega.{arith}
+use borrow.Author.Tests.{lt-ltb, le-ltb, lt-leb, ltb-true, eqb-true, eq-eqb, not-false}
+use lib.Dec.{ltb, eqb}
+use Rattle.slots.specs.Layout.{ring}
+use Rattle.slots.proofs.Words.{below?}
+use Rattle.table.specs.Tray.{Tray, cap, valid}
+use Rattle.table.specs.Calls.{Call, insert, remove}
+use Rattle.table.specs.Does.{Outcome, does, refusalsOf}
+use Rattle.table.specs.Within.{exceeds}
+use Rattle.table.proofs.Laws.Refusals.{Clear, passed-tests, not-fails, both-hold}
+use Rattle.table.proofs.Laws.Valid.{and-left, and-right}
+use Rattle.table.proofs.Theorems.Moves.{insert-moves, remove-moves}
+use Rattle.table.proofs.Theorems.Refused.{call-clear, call-settled}
+
+-- `over`: the shorter side is longer than the allowance where both are, and there is no other side where i is no place between two
+pub none-left : (a i n out : ℕ) → n ≤ out → false ≡ ltb a (min i (n - out - i))
+none-left a i n out none = sym (le-ltb a (min i (n - out - i)) (omega arith))
+
+pub none-behind : (a i m : ℕ) → m ≤ i → false ≡ ltb a (min i (m - i))
+none-behind a i m none = sym (le-ltb a (min i (m - i)) (omega arith))
+
+pub both-over : (a i m : ℕ) → ltb a i && ltb a m ≡ ltb a (min i m)
+both-over a i m =
+    ⊎-elim
+    (λ (lt : a < i). ⊎-elim
+    (λ (lt2 : a < m). rw (lt-ltb a i lt, lt-ltb a m lt2) (sym (lt-ltb a (min i m) (omega arith))))
+    (λ (ge : m ≤ a). rw (lt-ltb a i lt, le-ltb a m ge) (sym (le-ltb a (min i m) (omega arith))))
+    (below? a m))
+    (λ (ge : i ≤ a). rw (le-ltb a i ge) (sym (le-ltb a (min i m) (omega arith))))
+    (below? a i)
+
+not-not : (q : Bool) → not (not q) ≡ q
+not-not true = refl
+not-not false = refl
+
+-- two tests that hold where the other does
+alike : (x y : Bool) → (x ≡ true → y ≡ true) → (y ≡ true → x ≡ true) → x ≡ y
+alike true y to from = sym (to refl)
+alike false true to from = from refl
+alike false false to from = refl
+
+pub exceeding : (a : ℕ) (o : Outcome) → o .number ≡ 0 → a < o .moves → exceeds a o ≡ true
+exceeding a o done more = both-hold _ _ (eq-eqb (o .number) 0 done) (lt-ltb a (o .moves) more)
+
+pub exceeded : (a : ℕ) (o : Outcome) → exceeds a o ≡ true → (o .number ≡ 0) × (a < o .moves)
+exceeded a o e = (eqb-true (o .number) 0 (and-left _ _ e), ltb-true a (o .moves) (and-right (eqb (o .number) 0) _ e))
+
+tested-both : (b b′ s q v : Bool) → b ≡ b′ → s ≡ not q → b && not s ≡ v → b′ && q ≡ v
+tested-both b b′ s q v e es is = ap (λ z. b′ && z) (sym (ap not es ∙ not-not q)) ∙ ap (λ z. z && not s) (sym e) ∙ is
+
+-- A CALL whose moves, where it is done, are the shorter of two sides: q is what the code tests beside them.
+module _ (call : Call) (t : Tray) (i m : ℕ) (q : Bool) (moves : Clear (refusalsOf ring call t) → does ring call t .moves ≡ min i m)
+    (passes : Clear (refusalsOf ring call t) → q ≡ true) (clears : q ≡ true → 0 < min i m → Clear (refusalsOf ring call t)) where
+  pub over-is : (a : ℕ) → ltb a (min i m) && q ≡ exceeds a (does ring call t)
+  over-is a =
+      alike (ltb a (min i m) && q) (exceeds a (does ring call t))
+      (λ e.
+      let more : a < min i m = ltb-true a (min i m) (and-left _ _ e) in
+      let clear = clears (and-right (ltb a (min i m)) q e) (omega arith) in
+      exceeding a (does ring call t) (ap (λ o. o .number) (call-settled ring call t .otherwise clear)) (rw (moves clear) more))
+      (λ e.
+      let is = exceeded a (does ring call t) e in
+      let clear = call-clear ring call t (does ring call t) refl (is .0) in
+      both-hold (ltb a (min i m)) q (lt-ltb a (min i m) (rw (moves clear) at (is .1))) (passes clear))
+
+-- INSERT needs a free slot beside a valid state; that i is a position follows where both sides are longer than something. REMOVE needs no more than the state.
+module _ (t : Tray) (i : ℕ) where
+  abbrev ok : Bool
+  ok = valid ring (cap t) (t .head) (t .len)
+
+  pub insert-over : (x a : ℕ) → ltb a (min i (t .len - 0 - i)) && (ok && ltb (t .len) (cap t)) ≡ exceeds a (does ring (insert i x) t)
+  insert-over x =
+      over-is (insert i x) t i (t .len - 0 - i) (ok && ltb (t .len) (cap t))
+      (λ e. insert-moves t (e .0) i x (omega passed-tests) (omega passed-tests) ∙ omega arith)
+      (λ e. both-hold ok _ (not-false ok (e .0)) (lt-ltb (t .len) (cap t) (omega passed-tests)))
+      (λ q some.
+      let fits : i ≤ t .len = omega arith in
+      let room : t .len < cap t = ltb-true (t .len) (cap t) (and-right ok _ q) in
+      (not-fails ok (and-left ok _ q), (le-ltb _ _ fits, (lt-leb _ _ room, tt))))
+
+  pub remove-over : (a : ℕ) → ltb a (min i (t .len - 1 - i)) && ok ≡ exceeds a (does ring (remove i) t)
+  remove-over =
+      over-is (remove i) t i (t .len - 1 - i) ok
+      (λ e. remove-moves t (e .0) i (omega passed-tests))
+      (λ e. not-false ok (e .0))
+      (λ q some.
+      let fits : i < t .len = omega arith in
+      (not-fails ok q, (lt-leb _ _ fits, tt)))
+
+-- as the code has them: b is what `over` told, and s what the test of the state told
+module _ (t : Tray) (i a : ℕ) (b s : Bool) where
+  pub insert-exceeds : (x : ℕ) (v : Bool) → b ≡ ltb a (min i (t .len - 0 - i)) → s ≡ not (valid ring (cap t) (t .head) (t .len) && ltb (t .len) (cap t)) → b && not s ≡ v
+      → exceeds a (does ring (insert i x) t) ≡ v
+  insert-exceeds x v far stops e = sym (insert-over t i x a) ∙ tested-both b _ s _ v far stops e
+
+  pub remove-exceeds : (v : Bool) → b ≡ ltb a (min i (t .len - 1 - i)) → s ≡ not (valid ring (cap t) (t .head) (t .len)) → b && not s ≡ v
+      → exceeds a (does ring (remove i) t) ≡ v
+  remove-exceeds v far stops e = sym (remove-over t i a) ∙ tested-both b _ s _ v far stops e

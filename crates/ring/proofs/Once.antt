@@ -11,7 +11,7 @@ use Rattle.table.specs.Does.{Outcome}
 use Rattle.table.proofs.Theorems.Unique.{one-answer}
 use Rattle.ring.specs.declared.Ring.{Ring}
 use Rattle.ring.specs.declared.Answer.{Answer}
-use Rattle.ring.specs.Seen.{seen, Meets, Makes, state}
+use Rattle.ring.specs.Seen.{seen, Meets, MeetsWithin, Makes, state}
 use Rattle.ring.proofs.Ring as fn
 use Rattle.ring.proofs.state as state·fn
 use Rattle.ring.proofs.left as left·fn
@@ -20,16 +20,19 @@ use Rattle.ring.proofs.shows as shows·fn
 use Rattle.ring.proofs.done as done·fn
 
 -- an answer is told by what is seen of it, by the slot that it reports and by the total
-told-by : (o : Outcome) (n m : ℕ) (r r′ : Answer) (s s′ : List ℕ) → seen r s ≡ o → seen r′ s′ ≡ o → r .slot ≡ n → r′ .slot ≡ n → r .ring .total .sum ≡ m → r′ .ring .total .sum ≡ m
+pub told-by : (o : Outcome) (n m : ℕ) (r r′ : Answer) (s s′ : List ℕ) → seen r s ≡ o → seen r′ s′ ≡ o → r .slot ≡ n → r′ .slot ≡ n → r .ring .total .sum ≡ m → r′ .ring .total .sum ≡ m
     → (r ≡ r′) × (s ≡ s′)
 told-by o n m r r′ s s′ e e′ slot slot′ sum sum′ =
     one-answer {B = ℕ × ℕ} seen (λ r. (r .slot, r .ring .total .sum))
     (λ o b. record { number = o .number; value = o .value; moves = o .moves; slot = b .0; ring = state (o .tray .head) (o .tray .len) (record { sum = b .1 }) })
     (λ r s. refl) (λ r s. refl) o (n, m) r r′ s s′ e e′ (cc) (cc)
 
--- every promise of this crate is `Meets`, a making's `Makes`
-one : {call : Call} {v : Ring} {b : List ℕ} (r r′ : Answer) (s s′ : List ℕ) → Meets call v b r s → Meets call v b r′ s′ → (r ≡ r′) × (s ≡ s′)
+-- every promise of this crate is `Meets`, with an allowance `MeetsWithin`, a making's `Makes`
+pub one : {call : Call} {v : Ring} {b : List ℕ} (r r′ : Answer) (s s′ : List ℕ) → Meets call v b r s → Meets call v b r′ s′ → (r ≡ r′) × (s ≡ s′)
 one r r′ s s′ p q = told-by _ _ _ r r′ s s′ (p .row) (q .row) (p .slot) (q .slot) (p .total) (q .total)
+
+pub one-within : {a : ℕ} {call : Call} {v : Ring} {b : List ℕ} (r r′ : Answer) (s s′ : List ℕ) → MeetsWithin a call v b r s → MeetsWithin a call v b r′ s′ → (r ≡ r′) × (s ≡ s′)
+one-within r r′ s s′ p q = told-by _ _ _ r r′ s s′ (p .row) (q .row) (p .slot) (q .slot) (p .total) (q .total)
 
 one-made : {m : Making} {b : List ℕ} (r r′ : Answer) (s s′ : List ℕ) → Makes m b r s → Makes m b r′ s′ → (r ≡ r′) × (s ≡ s′)
 one-made r r′ s s′ p q = told-by _ _ _ r r′ s s′ (p .row) (q .row) (p .slot) (q .slot) (p .total) (q .total)
@@ -71,6 +74,12 @@ module _ (κs : Lfts 1) where
 
   pub remove-once : Twice fn.remove.ended κs (fn.remove.Reads.Learnt κs) (λ r e r′ e′. (r ≡ r′) × (now (e .1 .0) ≡ now (e′ .1 .0)))
   remove-once a r r′ e e′ p q = one r r′ _ _ p q
+
+  pub insert-within-once : Twice fn.insert_within.ended κs (fn.insert_within.Reads.Learnt κs) (λ r e r′ e′. (r ≡ r′) × (now (e .1 .0) ≡ now (e′ .1 .0)))
+  insert-within-once a r r′ e e′ p q = one-within r r′ _ _ p q
+
+  pub remove-within-once : Twice fn.remove_within.ended κs (fn.remove_within.Reads.Learnt κs) (λ r e r′ e′. (r ≡ r′) × (now (e .1 .0) ≡ now (e′ .1 .0)))
+  remove-within-once a r r′ e e′ p q = one-within r r′ _ _ p q
 
   pub truncate-once : Twice fn.truncate.ended κs (fn.truncate.Reads.Learnt κs) (λ r e r′ e′. (r ≡ r′) × (now (e .1 .0) ≡ now (e′ .1 .0)))
   truncate-once a r r′ e e′ p q = one r r′ _ _ p q

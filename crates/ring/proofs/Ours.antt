@@ -8,8 +8,10 @@ use borrow.Fn.World.{ArgsD, ResD}
 use Rattle.slots.specs.Layout.{ring}
 use Rattle.table.specs.Calls.{new, withCapacity, look, len, read, reserve}
 use Rattle.table.specs.Calls.{write, push, pushFront, pop, popFront, insert, remove, truncate, resize, clear}
-use Rattle.table.specs.World.{World, make, on, Ours}
+use Rattle.table.specs.Within.{promiseWithin}
+use Rattle.table.specs.World.{World, called, make, on, Ours}
 use Rattle.table.proofs.Laws.Named.{Is, ours-make, ours-on}
+use Rattle.table.proofs.Laws.Within.{ours-within}
 use Rattle.ring.specs.Seen.{tray, seen}
 use Rattle.ring.proofs.Ring as fn
 
@@ -63,6 +65,16 @@ module _ (w : World) (i : ℕ) (κs : Lfts 1) where
   pub remove-ours : (a : ArgsD fn.remove.signature κs) (r : ResD fn.remove.signature κs) (e : AtExit fn.remove.ended κs)
       → Is w i ring (tray (a .0) (now (a .1 .0))) → fn.remove.Reads.Learnt κs a r e → Ours w (on i (remove (a .1 .1 .0)) (seen r (now (e .1 .0))))
   remove-ours a r e is learnt = ours-on w i _ _ _ _ refl is (learnt .row)
+
+  pub insert-within-ours : (a : ArgsD fn.insert_within.signature κs) (r : ResD fn.insert_within.signature κs) (e : AtExit fn.insert_within.ended κs)
+      → Is w i ring (tray (a .0) (now (a .1 .0))) → fn.insert_within.Reads.Learnt κs a r e
+      → Ours w (called i (promiseWithin (a .1 .1 .1 .1 .0) (insert (a .1 .1 .0) (a .1 .1 .1 .0))) (seen r (now (e .1 .0))))
+  insert-within-ours a r e is learnt = ours-within w i _ _ _ _ _ refl is (learnt .row)
+
+  pub remove-within-ours : (a : ArgsD fn.remove_within.signature κs) (r : ResD fn.remove_within.signature κs) (e : AtExit fn.remove_within.ended κs)
+      → Is w i ring (tray (a .0) (now (a .1 .0))) → fn.remove_within.Reads.Learnt κs a r e
+      → Ours w (called i (promiseWithin (a .1 .1 .1 .0) (remove (a .1 .1 .0))) (seen r (now (e .1 .0))))
+  remove-within-ours a r e is learnt = ours-within w i _ _ _ _ _ refl is (learnt .row)
 
   pub truncate-ours : (a : ArgsD fn.truncate.signature κs) (r : ResD fn.truncate.signature κs) (e : AtExit fn.truncate.ended κs)
       → Is w i ring (tray (a .0) (now (a .1 .0))) → fn.truncate.Reads.Learnt κs a r e → Ours w (on i (truncate (a .1 .1 .0)) (seen r (now (e .1 .0))))

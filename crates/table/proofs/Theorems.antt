@@ -9,6 +9,9 @@ pub mod Sides
 pub mod Best
 pub mod BestLayout
 pub mod NoRing
+pub mod Within
+pub mod Capacity
+pub mod Room
 pub mod Reported
 pub mod Totals
 pub mod Sums

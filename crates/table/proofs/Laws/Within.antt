@@ -6,14 +6,18 @@ use mathlib.Core.Logic.{⊎-elim}
 use native.Mathlib.Omega.{arith}
 use borrow.Author.Tests.{lt-ltb, le-ltb, lt-leb, ltb-true, eqb-true, eq-eqb, not-false}
 use lib.Dec.{ltb, eqb}
-use Rattle.slots.specs.Layout.{ring}
+use Rattle.slots.specs.Layout.{Kind, ring}
 use Rattle.slots.proofs.Words.{below?}
 use Rattle.table.specs.Tray.{Tray, cap, valid}
-use Rattle.table.specs.Calls.{Call, insert, remove}
+use Rattle.table.specs.Calls.{Call, insert, remove, has}
 use Rattle.table.specs.Does.{Outcome, does, refusalsOf}
-use Rattle.table.specs.Within.{exceeds}
+use Rattle.table.specs.Promise.{Kept}
+use Rattle.table.specs.World.{World, called, Ours}
+use Rattle.table.specs.Within.{exceeds, promiseWithin, doesWithin}
 use Rattle.table.proofs.Laws.Refusals.{Clear, passed-tests, not-fails, both-hold}
 use Rattle.table.proofs.Laws.Valid.{and-left, and-right}
+use Rattle.table.proofs.Laws.Keeps.{call-kept, unless-kept}
+use Rattle.table.proofs.Laws.Named.{Is, ours-called}
 use Rattle.table.proofs.Theorems.Moves.{insert-moves, remove-moves}
 use Rattle.table.proofs.Theorems.Refused.{call-clear, call-settled}
 
@@ -101,3 +105,12 @@ module _ (t : Tray) (i a : ℕ) (b s : Bool) where
   pub remove-exceeds : (v : Bool) → b ≡ ltb a (min i (t .len - 1 - i)) → s ≡ not (valid ring (cap t) (t .head) (t .len)) → b && not s ≡ v
       → exceeds a (does ring (remove i) t) ≡ v
   remove-exceeds v far stops e = sym (remove-over t i a) ∙ tested-both b _ s _ v far stops e
+
+-- AN EVENT of demand 3: a call with an allowance that its kind has, with the outcome that its promise says. 12 leaves all as it was, so the promise is kept.
+pub within-kept : (a : ℕ) (call : Call) → Kept (promiseWithin a call)
+within-kept a call = unless-kept 12 (omega arith) (λ k t. exceeds a (does k call t)) (call-kept call)
+
+pub ours-within : (w : World) (i : ℕ) (k : Kind) (t : Tray) (a : ℕ) (call : Call) (o : Outcome) → has call k ≡ true → Is w i k t → o ≡ doesWithin a k call t
+    → Ours w (called i (promiseWithin a call) o)
+unfolding doesWithin
+ours-within w i k t a call o can named e = ours-called w i k t (promiseWithin a call) o (within-kept a call) can named e

@@ -15,7 +15,7 @@ use Rattle.ring.specs.declared.Ring.{Ring}
 use Rattle.ring.specs.Seen as seen-rings
 use Rattle.vector.specs.declared.Vector.{Vector}
 use Rattle.vector.specs.Seen as seen-vectors
-use Rattle.tumbrelice.specs.Heard.{valueIn, slotIn, movesIn, numberIn, heard, Held, Hears, HearsMade, ringIn, vectorIn, ringOf, vectorOf}
+use Rattle.tumbrelice.specs.Heard.{valueIn, slotIn, movesIn, numberIn, heard, Held, Hears, HearsWithin, HearsMade, ringIn, vectorIn, ringOf, vectorOf}
 use Rattle.tumbrelice.proofs.makings as makings
 use Rattle.tumbrelice.proofs.rings as rings
 use Rattle.tumbrelice.proofs.vectors as vectors
@@ -38,6 +38,9 @@ one-of o m n w w′ t t′ p q slot slot′ total total′ =
 
 one : {k : Kind} {call : Call} {b : Held} (w w′ : ℕ) (t t′ : Held) → Hears k call b w t → Hears k call b w′ t′ → (w ≡ w′) × (t ≡ t′)
 one w w′ t t′ p q = one-of _ _ _ w w′ t t′ (p .row) (q .row) (p .slot) (q .slot) (p .total) (q .total)
+
+one-within : {a : ℕ} {k : Kind} {call : Call} {b : Held} (w w′ : ℕ) (t t′ : Held) → HearsWithin a k call b w t → HearsWithin a k call b w′ t′ → (w ≡ w′) × (t ≡ t′)
+one-within w w′ t t′ p q = one-of _ _ _ w w′ t t′ (p .row) (q .row) (p .slot) (q .slot) (p .total) (q .total)
 
 one-made : {k : Kind} {m : Making} {s : List ℕ} (w w′ : ℕ) (t t′ : Held) → HearsMade k m s w t → HearsMade k m s w′ t′ → (w ≡ w′) × (t ≡ t′)
 one-made w w′ t t′ p q = one-of _ _ _ w w′ t t′ (p .row) (q .row) (p .slot) (q .slot) (p .total) (q .total)
@@ -95,6 +98,12 @@ module _ (κs : Lfts 2) where
 
   pub tum-ring-remove-once : Twice rings.tum_ring_remove.ended κs (rings.tum_ring_remove.Reads.Learnt κs) (λ r e r′ e′. (r ≡ r′) × (ringOf (now (e .1 .0)) (now (e .0)) ≡ ringOf (now (e′ .1 .0)) (now (e′ .0))))
   tum-ring-remove-once a r r′ e e′ p q = one r r′ _ _ p q
+
+  pub tum-ring-insert-within-once : Twice rings.tum_ring_insert_within.ended κs (rings.tum_ring_insert_within.Reads.Learnt κs) (λ r e r′ e′. (r ≡ r′) × (ringOf (now (e .1 .0)) (now (e .0)) ≡ ringOf (now (e′ .1 .0)) (now (e′ .0))))
+  tum-ring-insert-within-once a r r′ e e′ p q = one-within r r′ _ _ p q
+
+  pub tum-ring-remove-within-once : Twice rings.tum_ring_remove_within.ended κs (rings.tum_ring_remove_within.Reads.Learnt κs) (λ r e r′ e′. (r ≡ r′) × (ringOf (now (e .1 .0)) (now (e .0)) ≡ ringOf (now (e′ .1 .0)) (now (e′ .0))))
+  tum-ring-remove-within-once a r r′ e e′ p q = one-within r r′ _ _ p q
 
   pub tum-ring-truncate-once : Twice rings.tum_ring_truncate.ended κs (rings.tum_ring_truncate.Reads.Learnt κs) (λ r e r′ e′. (r ≡ r′) × (ringOf (now (e .1 .0)) (now (e .0)) ≡ ringOf (now (e′ .1 .0)) (now (e′ .0))))
   tum-ring-truncate-once a r r′ e e′ p q = one r r′ _ _ p q

@@ -8,8 +8,10 @@ use borrow.Fn.World.{ArgsD, ResD}
 use Rattle.slots.specs.Layout.{ring, vector}
 use Rattle.table.specs.Calls.{new, withCapacity, fromElem, look, len, isEmpty, read, reserve, tryReserve, tryReserveExact, range}
 use Rattle.table.specs.Calls.{write, push, pushFront, pop, popFront, insert, remove, swapRemove, truncate, resize, clear, extend}
-use Rattle.table.specs.World.{World, make, on, Ours}
+use Rattle.table.specs.Within.{promiseWithin}
+use Rattle.table.specs.World.{World, called, make, on, Ours}
 use Rattle.table.proofs.Laws.Named.{Is, ours-make, ours-on}
+use Rattle.table.proofs.Laws.Within.{ours-within}
 use Rattle.tumbrelice.specs.Heard.{heard, ringTray, vectorTray}
 use Rattle.tumbrelice.proofs.makings as makings
 use Rattle.tumbrelice.proofs.rings as rings
@@ -77,6 +79,16 @@ module _ (w : World) (i : ℕ) (κs : Lfts 2) where
   pub tum-ring-remove-ours : (a : ArgsD rings.tum_ring_remove.signature κs) (r : ResD rings.tum_ring_remove.signature κs) (e : AtExit rings.tum_ring_remove.ended κs)
       → Is w i ring (ringTray (now (a .1 .0)) (now (a .0))) → rings.tum_ring_remove.Reads.Learnt κs a r e → Ours w (on i (remove (a .1 .1 .0)) (heard r (ringTray (now (e .1 .0)) (now (e .0)))))
   tum-ring-remove-ours a r e is learnt = ours-on w i _ _ _ _ refl is (learnt .row)
+
+  pub tum-ring-insert-within-ours : (a : ArgsD rings.tum_ring_insert_within.signature κs) (r : ResD rings.tum_ring_insert_within.signature κs) (e : AtExit rings.tum_ring_insert_within.ended κs)
+      → Is w i ring (ringTray (now (a .1 .0)) (now (a .0))) → rings.tum_ring_insert_within.Reads.Learnt κs a r e
+      → Ours w (called i (promiseWithin (a .1 .1 .1 .1 .0) (insert (a .1 .1 .0) (a .1 .1 .1 .0))) (heard r (ringTray (now (e .1 .0)) (now (e .0)))))
+  tum-ring-insert-within-ours a r e is learnt = ours-within w i _ _ _ _ _ refl is (learnt .row)
+
+  pub tum-ring-remove-within-ours : (a : ArgsD rings.tum_ring_remove_within.signature κs) (r : ResD rings.tum_ring_remove_within.signature κs) (e : AtExit rings.tum_ring_remove_within.ended κs)
+      → Is w i ring (ringTray (now (a .1 .0)) (now (a .0))) → rings.tum_ring_remove_within.Reads.Learnt κs a r e
+      → Ours w (called i (promiseWithin (a .1 .1 .1 .0) (remove (a .1 .1 .0))) (heard r (ringTray (now (e .1 .0)) (now (e .0)))))
+  tum-ring-remove-within-ours a r e is learnt = ours-within w i _ _ _ _ _ refl is (learnt .row)
 
   pub tum-ring-truncate-ours : (a : ArgsD rings.tum_ring_truncate.signature κs) (r : ResD rings.tum_ring_truncate.signature κs) (e : AtExit rings.tum_ring_truncate.ended κs)
       → Is w i ring (ringTray (now (a .1 .0)) (now (a .0))) → rings.tum_ring_truncate.Reads.Learnt κs a r e → Ours w (on i (truncate (a .1 .1 .0)) (heard r (ringTray (now (e .1 .0)) (now (e .0)))))

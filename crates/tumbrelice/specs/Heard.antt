@@ -9,6 +9,7 @@ use Rattle.table.specs.Calls.{Call, Call2, Making, Look, look, fromIter}
 use Rattle.table.specs.Does.{Outcome, Outcome2, does, does2, made}
 use Rattle.table.specs.Reported.{noSlot, reported}
 use Rattle.table.specs.Totals.{totalAfter, totalMade, totalFirst, totalSecond}
+use Rattle.table.specs.Within.{doesWithin, reportedWithin, totalWithin}
 use Rattle.runs.specs.Width.{summing}
 use Rattle.ring.specs.declared.Ring.{Ring}
 use Rattle.ring.specs.Seen as rings
@@ -94,6 +95,12 @@ pub record Hears (k : Kind) (call : Call) (before : Held) (word : ℕ) (after : 
   pub row : heard word (after .tray) ≡ does k call (before .tray)
   pub slot : slotIn word ≡ reported k call (before .tray)
   pub total : after .total ≡ totalAfter k call (before .tray) (before .total)
+
+-- of a call with an allowance (request 11), in the same words
+pub record HearsWithin (a : ℕ) (k : Kind) (call : Call) (before : Held) (word : ℕ) (after : Held) : Type 0 where
+  pub row : heard word (after .tray) ≡ doesWithin a k call (before .tray)
+  pub slot : slotIn word ≡ reportedWithin a k call (before .tray)
+  pub total : after .total ≡ totalWithin a k call (before .tray) (before .total)
 
 -- of a step of a cursor, which comes to be u: it reports no slot, and leaves the state
 pub record HearsAt (k : Kind) (q : Look) (b : Held) (word : ℕ) (u : Cursor) : Type 0 where

@@ -6,7 +6,7 @@ use super::ring_weighs;
 use super::word;
 ghost use Rattle.slots.specs.Layout.{ring};
 ghost use Rattle.table.specs.Calls.{write, push, pushFront, pop, popFront, insert, remove, truncate, resize, clear, look, len, read, reserve};
-ghost use Rattle.tumbrelice.specs.Heard.{Hears, ringOf};
+ghost use Rattle.tumbrelice.specs.Heard.{Hears, HearsWithin, ringOf};
 
 #[no_mangle]
 pub extern "C" fn tum_ring_len(slots: &[u32], state: &[u64; 3]) -> u64
@@ -101,6 +101,37 @@ pub extern "C" fn tum_ring_remove(slots: &mut [u32], state: &mut [u64; 3], i: us
 {
     let r = ring_in(state);
     let a = r.remove(slots, i);
+    ring_out(state, a.number, a.ring);
+    word(a.number, a.value, a.moves, a.slot)
+}
+
+#[no_mangle]
+pub extern "C" fn tum_ring_insert_within(
+    slots: &mut [u32],
+    state: &mut [u64; 3],
+    i: usize,
+    x: u32,
+    allowance: usize,
+) -> u64
+    ensures { λ r. ⌜ HearsWithin allowance ring (insert i x) (ringOf (now (state .entry)) (now (slots .entry))) r (ringOf (now (state .exit)) (now (slots .exit))) ⌝ }
+{
+    let r = ring_in(state);
+    let a = r.insert_within(slots, i, x, allowance);
+    ring_out(state, a.number, a.ring);
+    word(a.number, a.value, a.moves, a.slot)
+}
+
+#[no_mangle]
+pub extern "C" fn tum_ring_remove_within(
+    slots: &mut [u32],
+    state: &mut [u64; 3],
+    i: usize,
+    allowance: usize,
+) -> u64
+    ensures { λ r. ⌜ HearsWithin allowance ring (remove i) (ringOf (now (state .entry)) (now (slots .entry))) r (ringOf (now (state .exit)) (now (slots .exit))) ⌝ }
+{
+    let r = ring_in(state);
+    let a = r.remove_within(slots, i, allowance);
     ring_out(state, a.number, a.ring);
     word(a.number, a.value, a.moves, a.slot)
 }

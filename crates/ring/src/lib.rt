@@ -1,9 +1,7 @@
 // A ring of entries in lent slots. Each call's promise is its row of the table: what is seen of it is what the table says.
 use runs::total;
 use runs::total::Total;
-ghost use Prim.Native.Nat.{_-_, min};
 ghost use mathlib.Core.Path.{_≡_};
-ghost use lib.Dec.{ltb};
 ghost use Rattle.table.specs.Calls.{new, withCapacity, look, len, read, reserve};
 ghost use Rattle.table.specs.Calls.{write, push, pushFront, pop, popFront, insert, remove, truncate, resize, clear};
 ghost use Rattle.slots.specs.Layout.{ring};
@@ -241,12 +239,11 @@ impl Ring {
         lit(at, took(old, last - i, head, last, self.total))
     }
 
-    // With an allowance: an insertion that would be done, but would move more, is refused with 12 before a slot changes.
+    // With an allowance: an insertion that would be done, but would move more, is refused before a slot changes.
     pub fn insert_within(self, slots: &mut [u32], i: usize, x: u32, allowance: usize) -> Answer
         ensures { λ r. ⌜ MeetsWithin allowance (insert i x) self (now (slots .entry)) r (now (slots .exit)) ⌝ }
     {
-        let stops = table::invalid_ring_or_full(slots.len(), self.head, self.len);
-        if over(self.len, 0, i, allowance) & !stops {
+        if table::within::insert_over(slots.len(), self.head, self.len, i, allowance) {
             return refused(12, self);
         }
         self.insert(slots, i, x)
@@ -256,8 +253,7 @@ impl Ring {
     pub fn remove_within(self, slots: &mut [u32], i: usize, allowance: usize) -> Answer
         ensures { λ r. ⌜ MeetsWithin allowance (remove i) self (now (slots .entry)) r (now (slots .exit)) ⌝ }
     {
-        let stops = table::invalid_ring(slots.len(), self.head, self.len);
-        if over(self.len, 1, i, allowance) & !stops {
+        if table::within::remove_over(slots.len(), self.head, self.len, i, allowance) {
             return refused(12, self);
         }
         self.remove(slots, i)
@@ -322,21 +318,6 @@ impl Ring {
         let total = total::less(self.total, gone);
         done(0, 0, 0, 0, total)
     }
-}
-
-// Whether more entries than allowed stand on either side of place i, once `out` of them are taken out there: the fewer of them would move. Where i is beyond the
-// list there is no other side.
-fn over(len: usize, out: usize, i: usize, allowance: usize) -> bool
-    ensures { λ r. ⌜ r ≡ ltb allowance (min i (len - out - i)) ⌝ }
-{
-    if len <= out {
-        return false;
-    }
-    let rest = len - out;
-    if rest <= i {
-        return false;
-    }
-    (allowance < i) & (allowance < rest - i)
 }
 
 // The state with this head, length and total: every state of a ring is put together here.

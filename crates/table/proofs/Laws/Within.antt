@@ -21,26 +21,33 @@ use Rattle.table.proofs.Laws.Named.{Is, ours-called}
 use Rattle.table.proofs.Theorems.Moves.{insert-moves, remove-moves}
 use Rattle.table.proofs.Theorems.Refused.{call-clear, call-settled}
 
--- `over`: the shorter side is longer than the allowance where both are, and there is no other side where i is no place between two
-pub none-left : (a i n out : ℕ) → n ≤ out → false ≡ ltb a (min i (n - out - i))
-none-left a i n out none = sym (le-ltb a (min i (n - out - i)) (omega arith))
+-- `over`: the shorter side is longer than the allowance where both are
+pub near-front : (a i m : ℕ) → i ≤ a → false ≡ ltb a (min i m)
+near-front a i m near = sym (le-ltb a (min i m) (omega arith))
 
 pub none-behind : (a i m : ℕ) → m ≤ i → false ≡ ltb a (min i (m - i))
 none-behind a i m none = sym (le-ltb a (min i (m - i)) (omega arith))
 
-pub both-over : (a i m : ℕ) → ltb a i && ltb a m ≡ ltb a (min i m)
-both-over a i m =
+pub far-front : (a i m : ℕ) → a < i → ltb a m ≡ ltb a (min i m)
+far-front a i m far =
     ⊎-elim
-    (λ (lt : a < i). ⊎-elim
-    (λ (lt2 : a < m). rw (lt-ltb a i lt, lt-ltb a m lt2) (sym (lt-ltb a (min i m) (omega arith))))
-    (λ (ge : m ≤ a). rw (lt-ltb a i lt, le-ltb a m ge) (sym (le-ltb a (min i m) (omega arith))))
-    (below? a m))
-    (λ (ge : i ≤ a). rw (le-ltb a i ge) (sym (le-ltb a (min i m) (omega arith))))
-    (below? a i)
+    (λ (lt : a < m). lt-ltb a m lt ∙ sym (lt-ltb a (min i m) (omega arith)))
+    (λ (ge : m ≤ a). le-ltb a m ge ∙ sym (le-ltb a (min i m) (omega arith)))
+    (below? a m)
 
-not-not : (q : Bool) → not (not q) ≡ q
-not-not true = refl
-not-not false = refl
+-- b is what `over` told, and s whether the state stops the call
+pub over-tested : (b x s q : Bool) → b ≡ x → b ≡ true → s ≡ not q → not s ≡ x && q
+over-tested b x s q e is es = ap not es ∙ not-not q ∙ ap (λ z. z && q) (sym is ∙ e)
+  where
+    not-not : (q : Bool) → not (not q) ≡ q
+    not-not true = refl
+    not-not false = refl
+
+pub not-over : (b x q : Bool) → b ≡ x → b ≡ false → false ≡ x && q
+not-over b x q e is = ap (λ z. z && q) (sym is ∙ e)
+
+pub none-over : (a i n : ℕ) (q : Bool) → n ≡ 0 → false ≡ ltb a (min i (n - 1 - i)) && q
+none-over a i n q none = ap (λ z. z && q) (sym (le-ltb a (min i (n - 1 - i)) (omega arith)))
 
 -- two tests that hold where the other does
 alike : (x y : Bool) → (x ≡ true → y ≡ true) → (y ≡ true → x ≡ true) → x ≡ y
@@ -53,9 +60,6 @@ exceeding a o done more = both-hold _ _ (eq-eqb (o .number) 0 done) (lt-ltb a (o
 
 pub exceeded : (a : ℕ) (o : Outcome) → exceeds a o ≡ true → (o .number ≡ 0) × (a < o .moves)
 exceeded a o e = (eqb-true (o .number) 0 (and-left _ _ e), ltb-true a (o .moves) (and-right (eqb (o .number) 0) _ e))
-
-tested-both : (b b′ s q v : Bool) → b ≡ b′ → s ≡ not q → b && not s ≡ v → b′ && q ≡ v
-tested-both b b′ s q v e es is = ap (λ z. b′ && z) (sym (ap not es ∙ not-not q)) ∙ ap (λ z. z && not s) (sym e) ∙ is
 
 -- A CALL whose moves, where it is done, are the shorter of two sides: q is what the code tests beside them.
 module _ (call : Call) (t : Tray) (i m : ℕ) (q : Bool) (moves : Clear (refusalsOf ring call t) → does ring call t .moves ≡ min i m)
@@ -77,10 +81,10 @@ module _ (t : Tray) (i : ℕ) where
   abbrev ok : Bool
   ok = valid ring (cap t) (t .head) (t .len)
 
-  pub insert-over : (x a : ℕ) → ltb a (min i (t .len - 0 - i)) && (ok && ltb (t .len) (cap t)) ≡ exceeds a (does ring (insert i x) t)
+  pub insert-over : (x a : ℕ) → ltb a (min i (t .len - i)) && (ok && ltb (t .len) (cap t)) ≡ exceeds a (does ring (insert i x) t)
   insert-over x =
-      over-is (insert i x) t i (t .len - 0 - i) (ok && ltb (t .len) (cap t))
-      (λ e. insert-moves t (e .0) i x (omega passed-tests) (omega passed-tests) ∙ omega arith)
+      over-is (insert i x) t i (t .len - i) (ok && ltb (t .len) (cap t))
+      (λ e. insert-moves t (e .0) i x (omega passed-tests) (omega passed-tests))
       (λ e. both-hold ok _ (not-false ok (e .0)) (lt-ltb (t .len) (cap t) (omega passed-tests)))
       (λ q some.
       let fits : i ≤ t .len = omega arith in
@@ -96,15 +100,13 @@ module _ (t : Tray) (i : ℕ) where
       let fits : i < t .len = omega arith in
       (not-fails ok q, (lt-leb _ _ fits, tt)))
 
--- as the code has them: b is what `over` told, and s what the test of the state told
-module _ (t : Tray) (i a : ℕ) (b s : Bool) where
-  pub insert-exceeds : (x : ℕ) (v : Bool) → b ≡ ltb a (min i (t .len - 0 - i)) → s ≡ not (valid ring (cap t) (t .head) (t .len) && ltb (t .len) (cap t)) → b && not s ≡ v
-      → exceeds a (does ring (insert i x) t) ≡ v
-  insert-exceeds x v far stops e = sym (insert-over t i x a) ∙ tested-both b _ s _ v far stops e
+-- as the code has it: b is what the test told
+module _ (t : Tray) (i a : ℕ) (b v : Bool) where
+  pub insert-exceeds : (x : ℕ) → b ≡ (ltb a (min i (t .len - i)) && (valid ring (cap t) (t .head) (t .len) && ltb (t .len) (cap t))) → b ≡ v → exceeds a (does ring (insert i x) t) ≡ v
+  insert-exceeds x e is = sym (insert-over t i x a) ∙ sym e ∙ is
 
-  pub remove-exceeds : (v : Bool) → b ≡ ltb a (min i (t .len - 1 - i)) → s ≡ not (valid ring (cap t) (t .head) (t .len)) → b && not s ≡ v
-      → exceeds a (does ring (remove i) t) ≡ v
-  remove-exceeds v far stops e = sym (remove-over t i a) ∙ tested-both b _ s _ v far stops e
+  pub remove-exceeds : b ≡ (ltb a (min i (t .len - 1 - i)) && valid ring (cap t) (t .head) (t .len)) → b ≡ v → exceeds a (does ring (remove i) t) ≡ v
+  remove-exceeds e is = sym (remove-over t i a) ∙ sym e ∙ is
 
 -- AN EVENT of demand 3: a call with an allowance that its kind has, with the outcome that its promise says. 12 leaves all as it was, so the promise is kept.
 pub within-kept : (a : ℕ) (call : Call) → Kept (promiseWithin a call)

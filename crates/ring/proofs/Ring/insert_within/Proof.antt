@@ -11,7 +11,6 @@ insert-within-spec =
     (tie.spec
     (λ c κs. search needs)
     (λ c κs. search needs)
-    (λ c κs. search needs)
     (λ c. search (insert-exceeds, within))
     (λ c κs. search needs)
     (λ c. search needs)

@@ -11,7 +11,6 @@ remove-within-spec =
     (tie.spec
     (λ c κs. search needs)
     (λ c κs. search needs)
-    (λ c κs. search needs)
     (λ c. search (remove-exceeds, within))
     (λ c κs. search needs)
     (λ c. search needs)

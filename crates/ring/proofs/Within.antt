@@ -9,7 +9,7 @@ use contract.Lifetimes.{Lfts}
 use denote.Ref.{RefT, now}
 use denote.Triple.Clauses.{AtExit}
 use Rattle.slots.specs.Layout.{ring}
-use Rattle.table.specs.Tray.{Tray, nowhere}
+use Rattle.table.specs.Tray.{nowhere}
 use Rattle.table.specs.Calls.{Call, insert, remove}
 use Rattle.table.specs.Does.{Outcome, refused, does}
 use Rattle.table.specs.Within.{doesWithin}

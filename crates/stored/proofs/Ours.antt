@@ -14,6 +14,7 @@ use Rattle.table.proofs.Laws.Refusals.{either}
 use Rattle.table.proofs.Laws.Keeps.{showing-kept}
 use Rattle.table.proofs.Laws.Named.{Is, ours-called}
 use Rattle.table.proofs.Theorems.AlwaysHome.{Homes, showing-homes}
+use Rattle.table.proofs.Theorems.Capacity.{Sized, showing-sized}
 use Rattle.digits.specs.Put.{put}
 use Rattle.ring.specs.Seen as rings
 use Rattle.vector.specs.Seen as vectors
@@ -38,6 +39,10 @@ storing-kept text = showing-kept _ _ (λ k t. as-it-was k t text)
 -- an empty ring's head stays 0
 pub storing-homes : (text : List ℕ) → Homes (storing text)
 storing-homes text = showing-homes _ _ (λ k t. as-it-was k t text)
+
+-- and the slots are as many
+pub storing-sized : (text : List ℕ) → Sized (storing text)
+storing-sized text = showing-sized _ _ (λ k t. as-it-was k t text)
 
 -- In what follows a are the arguments, r is the result, and e the arguments as they are at the return.
 module _ (w : World) (i : ℕ) (κs : Lfts 2) where

@@ -10,6 +10,7 @@ pub mod WorkedSame
 pub mod WorkedMakings
 pub mod WorkedCarrying
 pub mod WorkedBest
+pub mod WorkedWithin
 pub mod WorkedLedger
 pub mod WorkedKinds
 pub mod Run

@@ -1,7 +1,7 @@
 -- Request 11 for C, from the generated contracts: `tum_ring_insert_within` and `tum_ring_remove_within` answer 12 exactly when the plain call would be done and would move more; else the word, the
 -- state and the slots are the plain call's.
 use Prim.Native.Nat.{ℕ, _-_, _/_, _≤_}
-use mathlib.Core.Path.{_≡_, refl, ap, _∙_}
+use mathlib.Core.Path.{_≡_, ap, _∙_}
 use native.Mathlib.Omega.{arith}
 use lib.ListN.{length}
 use contract.Lifetimes.{Lfts}

@@ -15,6 +15,7 @@ use Rattle.table.specs.World.{World, make, on, called, Ours}
 use Rattle.table.proofs.Laws.Named.{Is, ours-make, ours-on, ours-called}
 use Rattle.table.proofs.Laws.Keeps.{showing-kept}
 use Rattle.table.proofs.Theorems.AlwaysHome.{Homes, showing-homes}
+use Rattle.table.proofs.Theorems.Capacity.{Sized, showing-sized}
 use Rattle.vector.specs.Seen.{tray, seen}
 use Rattle.vector.specs.Reading.{shown, reading}
 use Rattle.vector.proofs.Vector as fns
@@ -106,6 +107,10 @@ module _ (w : World) (i : ℕ) (κs : Lfts 2) where
 -- a part that is only read leaves an empty ring's head at 0, as it leaves everything
 pub reading-homes : (part : Tray → Part) → Homes (reading part)
 reading-homes part = showing-homes _ _ (λ k t. refl)
+
+-- and as many slots as there were
+pub reading-sized : (part : Tray → Part) → Sized (reading part)
+reading-sized part = showing-sized _ _ (λ k t. refl)
 
 -- The parts that are only read. That the slots stay is the `&`'s doing; that the part is the one lent is the promise's.
 module _ (part : Tray → Part) (w : World) (i : ℕ) (t : Tray) where

@@ -1,5 +1,5 @@
 -- The call keeps demand 3's rule: refused, it leaves both vectors; done, both were empty, they hold the starts and the ends, and these entered.
-use mathlib.Core.Path.{_≡_}
+use mathlib.Core.Path.{_≡_, refl}
 use mathlib.Core.Bool.{true, not}
 use mathlib.Core.List.{List, [], _++_}
 use Prim.Native.Nat.{ℕ, zero, suc, _+_, _-_, _≤_, _<_}
@@ -9,6 +9,7 @@ use lib.Dec.{eqb}
 use lib.ListN.{length}
 use Rattle.slots.specs.Layout.{Kind, ring, vector}
 use Rattle.slots.proofs.Placing.{no-entries}
+use Rattle.slots.proofs.Relaid.{length-relaid}
 use Rattle.table.specs.Tray.{Tray, cap, list, nowhere}
 use Rattle.table.specs.Does.{Outcome2, refused2}
 use Rattle.table.specs.Ledger.{goesBy2}
@@ -16,6 +17,7 @@ use Rattle.table.specs.Promise.{Good, Keeps2, Kept2}
 use Rattle.table.proofs.Laws.Keeps.{relay-holds, refused2-keeps}
 use Rattle.table.proofs.Theorems.Home.{AtHome}
 use Rattle.table.proofs.Theorems.AlwaysHome.{Homes2}
+use Rattle.table.proofs.Theorems.Capacity.{Sized2}
 use Rattle.record.specs.Scan.{scanned}
 use Rattle.record.specs.Places.{firsts, lasts}
 use Rattle.record.specs.Steps.{numberOf}
@@ -91,3 +93,20 @@ recording-homes text = record { homes = homes }
     homes vector vector t t2 has home home2 = (tt, tt)
     homes vector ring t t2 has home home2 = absurd (let z : _≡_ {A = ℕ} 0 1 = cc in omega arith)
     homes ring k2 t t2 has home home2 = absurd (let z : _≡_ {A = ℕ} 0 1 = cc in omega arith)
+
+-- and it leaves as many slots as it was lent
+abbrev Same : (t t2 : Tray) → Outcome2 → Type 0
+Same t t2 o = (cap (o .first) ≡ cap t) × (cap (o .second) ≡ cap t2)
+
+pub recording-sized : (text : List ℕ) → Sized2 (recording text)
+unfolding records
+recording-sized text = record { same = λ k k2 t t2. same t t2 }
+  where
+    refuses : (t t2 : Tray) (m : ℕ) → Same t t2 (refused2 t t2 nowhere m)
+    refuses t t2 m = (refl, refl)
+
+    same : (t t2 : Tray) → Same t t2 (records text t t2)
+    same t t2 =
+        by-tests (Same t t2) (refused2 t t2 nowhere) (earlyTests (cap t) (t .len) (cap t2) (t2 .len) (length text) ++ lateTests text (cap t) (cap t2)) (places text t t2)
+        (λ _. refuses t t2 1, (λ _. refuses t t2 2, (λ _. refuses t t2 5, (λ _. refuses t t2 5, (λ _. refuses t t2 11, (λ _. refuses t t2 (numberOf (scanned text .ending)), (λ _. refuses t t2 6, (λ _. refuses t t2 6, tt))))))))
+        (λ none. (length-relaid _ _ _ _ _, length-relaid _ _ _ _ _))

@@ -1,13 +1,13 @@
 -- The room to plan (request 11): an insertion in a ring moves at most half the old length, a removal half of one less than it, rounded down, and some position meets each bound. So k such
 -- calls on a ring of c slots, with any other calls in between, move at most k times half of c - 1 in sum; and an allowance of so much is always enough: 12 never comes.
 use Prim.Native.Nat.{ℕ, zero, suc, _+_, _-_, _*_, _/_, _≤_, _<_}
-use mathlib.Core.Path.{_≡_, refl, ap, _∙_, subst⁻¹}
-use mathlib.Core.Bool.{true, false}
+use mathlib.Core.Path.{_≡_, refl, ap, _∙_}
+use mathlib.Core.Bool.{false}
 use mathlib.Core.List.{List, [], _∷_}
 use native.Mathlib.Omega.{arith}
 use borrow.Author.Tests.{lt-leb, le-ltb}
 use lib.ListN.{length}
-use Rattle.slots.specs.Layout.{Kind, ring}
+use Rattle.slots.specs.Layout.{ring}
 use Rattle.table.specs.Tray.{Tray, cap, invalid}
 use Rattle.table.specs.Calls.{Call, insert, remove}
 use Rattle.table.specs.Does.{Outcome, refusalsOf, does}
@@ -18,7 +18,7 @@ use Rattle.table.proofs.Laws.Refusals.{Clear, passed-tests}
 use Rattle.table.proofs.Laws.Valid.{fit}
 use Rattle.table.proofs.Theorems.Moves.{insert-moves, remove-moves}
 use Rattle.table.proofs.Theorems.Refused.{call-settled, call-refused, call-clear}
-use Rattle.table.proofs.Theorems.Within.{MovesMore, each-way, else-plain}
+use Rattle.table.proofs.Theorems.Within.{each-way, else-plain}
 use Rattle.table.proofs.Theorems.Capacity.{AllSizing, Stands, stands-step, made-stands}
 
 -- a bound on the moves of a call that is done is one on those of any

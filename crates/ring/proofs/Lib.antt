@@ -6,6 +6,6 @@ pub mod Once
 pub mod Upstream
 pub mod Home
 pub mod Best
-pub mod Within
+pub mod Allowance
 pub mod Lamp
 pub mod Sum

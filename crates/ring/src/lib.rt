@@ -1,4 +1,6 @@
 // A ring of entries in lent slots. Each call's promise is its row of the table: what is seen of it is what the table says.
+mod within; // within.rt: the calls with an allowance
+
 use runs::total;
 use runs::total::Total;
 ghost use mathlib.Core.Path.{_≡_};
@@ -8,7 +10,7 @@ ghost use Rattle.slots.specs.Layout.{ring};
 ghost use Rattle.slots.specs.Total.{changed};
 ghost use Rattle.runs.specs.Width.{summing};
 ghost use Rattle.table.specs.Does.{headAfter};
-ghost use Rattle.ring.specs.Seen.{Meets, MeetsWithin, Makes, state, says, lit};
+ghost use Rattle.ring.specs.Seen.{Meets, Makes, state, says, lit};
 
 // The state: the slot of position 0, how many entries there are, and their total, which is what they add up to unless a wrong one was given.
 pub struct Ring {
@@ -237,26 +239,6 @@ impl Ring {
         let freed = slots::slot(cap, head, last);
         slots[freed] = 0;
         lit(at, took(old, last - i, head, last, self.total))
-    }
-
-    // With an allowance: an insertion that would be done, but would move more, is refused before a slot changes.
-    pub fn insert_within(self, slots: &mut [u32], i: usize, x: u32, allowance: usize) -> Answer
-        ensures { λ r. ⌜ MeetsWithin allowance (insert i x) self (now (slots .entry)) r (now (slots .exit)) ⌝ }
-    {
-        if table::within::insert_over(slots.len(), self.head, self.len, i, allowance) {
-            return refused(12, self);
-        }
-        self.insert(slots, i, x)
-    }
-
-    // The same of a removal.
-    pub fn remove_within(self, slots: &mut [u32], i: usize, allowance: usize) -> Answer
-        ensures { λ r. ⌜ MeetsWithin allowance (remove i) self (now (slots .entry)) r (now (slots .exit)) ⌝ }
-    {
-        if table::within::remove_over(slots.len(), self.head, self.len, i, allowance) {
-            return refused(12, self);
-        }
-        self.remove(slots, i)
     }
 
     // A ring on no slots has no slot for its head: where there is nothing to fill, here and below, that is a return of its own.

@@ -13,4 +13,4 @@ pub mod Ours
 pub mod OursTwo
 pub mod OursLooked
 pub mod Best
-pub mod Within
+pub mod Allowance

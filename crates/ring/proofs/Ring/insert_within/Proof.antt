@@ -11,7 +11,7 @@ insert-within-spec =
     (tie.spec
     (λ c κs. search needs)
     (λ c κs. search needs)
-    (λ c. search (insert-exceeds, within))
+    (λ c. search (insert-exceeds, within))  -- 12
     (λ c κs. search needs)
     (λ c. search needs)
     (λ c. search (insert-exceeds, within)))

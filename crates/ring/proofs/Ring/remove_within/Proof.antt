@@ -11,7 +11,7 @@ remove-within-spec =
     (tie.spec
     (λ c κs. search needs)
     (λ c κs. search needs)
-    (λ c. search (remove-exceeds, within))
+    (λ c. search (remove-exceeds, within))  -- 12
     (λ c κs. search needs)
     (λ c. search needs)
     (λ c. search (remove-exceeds, within)))

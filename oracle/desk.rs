@@ -121,7 +121,7 @@ impl Desk {
             0x01 | 0x04 => a <= MOST_SLOTS,
             0x03 => a < self.first.slots.len() as u64 && entry,
             0x06 => a < self.second.slots.len() as u64 && entry,
-            0x15..=0x17 | 0x1a | 0x1d | 0x25 | 0x26 | 0x28 | 0x2a | 0x2d | 0x3c | 0x3d => entry,
+            0x15..=0x17 | 0x1a | 0x1d | 0x25 | 0x26 | 0x28 | 0x2a | 0x2d | 0x3c | 0x3d | 0x90 => entry,
             0x2f => a <= self.second.slots.len() as u64,
             0x80 | 0x81 => a <= MOST_TEXT,
             _ => true,
@@ -152,19 +152,34 @@ impl Desk {
             self.first.total = 0;
         }
         let q = Asked { act, kind, a, b, first: self.first.state(), second: self.second.state(), front: self.front, back: self.back };
-        let answer = if ops::is_part(act) {
-            self.lend(&q)
-        } else {
-            let number = rules::number(&q);
-            let mut answer = if number == 0 { self.done(&q) } else { self.refused(&q) };
-            if act == Store {
-                answer.text = Some(self.text(&q, number));
-            }
-            Answer { number, ..answer }
+        let answer = match ops::plain(act) {
+            Some(plain) => self.within(&Asked { act: plain, ..q }),
+            None if ops::is_part(act) => self.lend(&q),
+            None => self.answered(&q),
         };
         self.print(&answer, out);
         let left = self.totals();
         Taken::Called(op.code, answer.number, [0, 1].map(|k| Total { given: given[k], left: left[k], sum: sums[k] }))
+    }
+
+    fn answered(&mut self, q: &Asked) -> Answer {
+        let number = rules::number(q);
+        let mut answer = if number == 0 { self.done(q) } else { self.refused(q) };
+        if q.act == Store {
+            answer.text = Some(self.text(q, number));
+        }
+        Answer { number, ..answer }
+    }
+
+    // With an allowance, the cursor's front: the plain call is made on a copy of the desk, which takes its place unless that call is done and moves more.
+    fn within(&mut self, plain: &Asked) -> Answer {
+        let mut copy = self.clone();
+        let answer = copy.answered(plain);
+        if rules::exceeds(answer.number, answer.moves, plain.front) {
+            return Answer { number: rules::TOO_MANY_MOVES, ..Answer::default() };
+        }
+        *self = copy;
+        answer
     }
 
     fn done(&mut self, q: &Asked) -> Answer {

@@ -1,4 +1,6 @@
-// The short cases, all of them: every capacity 0 to 4 with every head, length, call, position and cursor, one past each bound too; second containers up to 3.
+// The short cases, all of them: every capacity 0 to 4 with every head, length, call, position and cursor, one past each bound too; second containers up to 3;
+// with an allowance, capacities up to 8.
+use crate::allowance;
 use crate::desk::Taken;
 use crate::ops::{self, Act, Act::*, Kind, Kind::*, Op, OPS};
 use crate::pen::Pen;
@@ -48,6 +50,16 @@ impl Share {
         self.log.push((taken, group));
     }
 
+    // By whether fewer are allowed than the shorter side has, or as many; where the plain call would be done, also by the side and by whether any would move.
+    fn call_within(&mut self, pen: &mut Pen, op: &Op, a: u64, b: u64) {
+        let (before, behind) = allowance::sides(op.act, pen.desk.first.len, a);
+        let (fewer, allowed) = (before.min(behind), pen.desk.front);
+        let taken = self.made(pen, op, a, b);
+        let done = matches!(taken, Taken::Called(_, 0 | rules::TOO_MANY_MOVES, _));
+        let marks = [allowed < fewer, allowed == fewer, done && before < behind, done && behind < before, done && fewer > 0];
+        self.log.push((taken, marks.iter().fold(0, |sum, &bit| 2 * sum + bit as u8)));
+    }
+
     // The totals go by the case's place in the order, so that a case has the same ones whether or not those before it are written.
     fn made(&self, pen: &mut Pen, op: &Op, a: u64, b: u64) -> Taken {
         totals::place(pen, &mut Rng::new((self.seen as u64).wrapping_mul(0x9e37_79b9_7f4a_7c15)), op);
@@ -78,6 +90,8 @@ pub fn every(pen: &mut Pen, share: &mut Share) {
     parts(pen, share);
     pen.say("extend_from_slice.");
     extend(pen, share);
+    pen.say("A ring with an allowance.");
+    within(pen, share);
 }
 
 // A head that no capacity permits and a length above each are among them.
@@ -108,7 +122,8 @@ fn op(kind: Kind, act: Act) -> &'static Op {
 
 // The calls on one container, its cursor's beginning with them.
 fn alone(pen: &mut Pen, kind: Kind, share: &mut Share) {
-    let here = |act: Act| !ops::has_second(act) && !ops::is_part(act) && !matches!(act, StepFront | StepBack | PeekFront | PeekBack | Extend | Store);
+    let elsewhere = |act: Act| ops::has_second(act) || ops::is_part(act) || ops::plain(act).is_some();
+    let here = |act: Act| !elsewhere(act) && !matches!(act, StepFront | StepBack | PeekFront | PeekBack | Extend | Store);
     for s in states(4) {
         for op in OPS.iter().filter(|op| op.kind == kind && here(op.act)) {
             let at: Vec<u64> = if ops::has_position(op.act) { positions(s).collect() } else { vec![UNUSED] };
@@ -247,6 +262,24 @@ fn extend(pen: &mut Pen, share: &mut Share) {
                     set_first(pen, s);
                     set_second(pen, t);
                     share.call(pen, op(Vector, Extend), a, UNUSED);
+                }
+            }
+        }
+    }
+}
+
+// Up to 8 slots, so that up to 3 entries move: every allowance about what the call would move, whether or not it would be refused.
+fn within(pen: &mut Pen, share: &mut Share) {
+    for s in states(8) {
+        for op in allowance::calls() {
+            let b = if ops::has_entry(op.act) { ENTRY } else { UNUSED };
+            for a in positions(s) {
+                for allowed in allowance::about(s.cap, allowance::count(op.act, s.len, a)) {
+                    if share.takes() {
+                        set_first(pen, s);
+                        pen.set_cursor(allowed, !allowed);
+                        share.call_within(pen, op, a, b);
+                    }
                 }
             }
         }

@@ -1,4 +1,5 @@
 // The fixed list: some thousands of calls, the same on every machine, for the program's own test in the gate.
+use crate::allowance;
 use crate::by_hand;
 use crate::damaged;
 use crate::desk::Taken;
@@ -38,7 +39,18 @@ pub fn run(dir: &str) -> Result<(), String> {
     Ok(())
 }
 
-pub fn list(pen: &mut Pen) {
+// The lines alone.
+pub fn input() -> Vec<u8> {
+    let mut input = Vec::new();
+    {
+        let mut pen = Pen::new(usize::MAX, Tally::new(), |batch: Batch| input = batch.input);
+        list(&mut pen);
+        pen.flush();
+    }
+    input
+}
+
+fn list(pen: &mut Pen) {
     pen.say("Cases of the program replay, written by oracle/ (oracle fixed). A line with a # can't be taken, and says what comes after it.");
     pen.say("Nothing was placed yet: every container is empty.");
     for code in [0x12, 0x18, 0x22, 0x27, 0x40, 0x43, 0x44, 0x53, 0x60, 0x62, 0x39] {
@@ -48,7 +60,9 @@ pub fn list(pen: &mut Pen) {
     selfcheck::write_papers(pen);
     pen.say("Request 04: totals, right and wrong, and those that pass 2^64 or 0.");
     by_hand::write(pen);
-    pen.say("A sample of the short cases: capacity 0 to 4, every head and length, valid or not.");
+    pen.say("Request 11: insertions and removals with an allowance, the cursor's front.");
+    allowance::write(pen);
+    pen.say("A sample of the short cases: capacity 0 to 4, with an allowance up to 8, every head and length, valid or not.");
     pen.set_second(1, 1, &[0x51, 0x52]);
     pen.set_cursor(3, 2);
     exhaust::every(pen, &mut Share::of(sample()));

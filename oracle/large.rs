@@ -1,4 +1,5 @@
 // Cases at the capacities where something changes: a byte's end, a power of two, the most that is permitted and above it.
+use crate::allowance;
 use crate::ops::{self, Act::*, Kind, Kind::*, Op, OPS};
 use crate::pen::Pen;
 use crate::rng::Rng;
@@ -11,7 +12,8 @@ pub fn every(pen: &mut Pen) {
     for cap in [15, 16, 17, 255, 256, 257, 4095, 4096, 4097, 4200] {
         let slots: Vec<u32> = (0..cap as u32).map(|k| 0x5000_0000 + k).collect();
         for op in &OPS {
-            for _ in 0..if cap < 300 { 40 } else { 3 } {
+            let times = if cap < 300 { 40 } else if ops::plain(op.act).is_some() { 12 } else { 3 };
+            for _ in 0..times {
                 one(pen, &mut rng, op, &slots);
             }
         }
@@ -29,7 +31,8 @@ fn one(pen: &mut Pen, rng: &mut Rng, op: &Op, slots: &[u32]) {
     };
     let b = if ops::has_entry(op.act) { rng.next() >> 32 } else { rng.pick(&at) };
     let head = rng.pick(&[0, 1, cap / 2, cap - 3, cap - 2, cap - 1]);
-    pen.set_first(home(rng, head, len), len, slots);
+    let head = home(rng, head, len);
+    pen.set_first(head, len, slots);
     if ops::has_second(op.act) || op.act == Extend {
         let room = rng.pick(&[cap, cap, len.min(cap), 3]);
         let filled = if op.act == Append { (free + rng.below(2)).min(room) } else { rng.below(8) / 7 };
@@ -41,7 +44,19 @@ fn one(pen: &mut Pen, rng: &mut Rng, op: &Op, slots: &[u32]) {
     let (front, back) = (rng.pick(&at), rng.pick(&at));
     pen.set_cursor(front.min(back), front.max(back).min(len + rng.below(9) / 8));
     totals::place(pen, rng, op);
+    if ops::plain(op.act).is_some() {
+        return within(pen, op, (a, b), (head, len, slots));
+    }
     pen.line(op.code, a, b);
+}
+
+// On one ring, with each allowance about what would move.
+fn within(pen: &mut Pen, op: &Op, (a, b): (u64, u64), (head, len, slots): (u64, u64, &[u32])) {
+    for allowed in allowance::about(slots.len() as u64, allowance::count(op.act, len, a)) {
+        pen.set_first(head, len, slots);
+        pen.set_cursor(allowed, !allowed);
+        pen.line(op.code, a, b);
+    }
 }
 
 // An empty ring's head is 0, but for one in four.
@@ -105,8 +120,13 @@ fn laid(rng: &mut Rng, kind: Kind, list: &[u32]) -> (u64, Vec<u32>) {
 type Call = (u8, u64, u64);
 
 // Capacity, head, length, and the calls from there, with totals that are placed between them.
-const FEW: [(u64, u64, u64, &[Call]); 9] = [
+const FEW: [(u64, u64, u64, &[Call]); 11] = [
     (16, 12, 15, &[(0x1a, 7, 1), (0x1a, 8, 1), (0x1b, 8, 0), (0x1a, 8, 2), (0x1b, 3, 0), (0x19, 0, 0), (0x17, 0, 3), (0x17, 0, 4), (0x1b, 15, 0), (0x1d, 16, 5)]),
+    // 7 is half of 16 - 1, the most that moves; with one less allowed, which the cursor's front says (07), it is 12
+    (16, 12, 15, &[
+        (0x07, 6, 7), (0x90, 7, 1), (0x90, 8, 1), (0x91, 7, 0), (0x07, 7, 6), (0x90, 7, 1), (0x90, 7, 2), (0x91, 7, 0), (0x90, 8, 3), (0x91, 8, 0),
+        (0x07, 6, 7), (0x91, 7, 0), (0x91, 8, 0),
+    ]),
     (17, 16, 9, &[(0x1a, 4, 1), (0x1a, 5, 1), (0x1b, 5, 0), (0x1b, 4, 0), (0x18, 0, 0), (0x1d, 17, 6), (0x16, 0, 7), (0x1c, 16, 0), (0x16, 0, 8), (0x1e, 0, 0)]),
     (256, 250, 200, &[
         (0x1a, 3, 1), (0x1a, 199, 2), (0x1b, 2, 0), (0x1b, 198, 0), (0x16, 0, 3), (0x17, 0, 4), (0x18, 0, 0), (0x19, 0, 0),
@@ -117,7 +137,7 @@ const FEW: [(u64, u64, u64, &[Call]); 9] = [
     ]),
     // Each call that reports a slot, at slot 256: one byte doesn't hold it. The last pop_front empties the ring.
     (257, 254, 20, &[
-        (0x13, 2, 0), (0x15, 2, 1), (0x1b, 2, 0), (0x1a, 2, 2), (0x1c, 3, 0), (0x18, 0, 0), (0x16, 0, 3),
+        (0x13, 2, 0), (0x15, 2, 1), (0x1b, 2, 0), (0x1a, 2, 2), (0x07, 2, 20), (0x91, 2, 0), (0x90, 2, 2), (0x1c, 3, 0), (0x18, 0, 0), (0x16, 0, 3),
         (0x19, 0, 0), (0x19, 0, 0), (0x19, 0, 0), (0x17, 0, 4),
     ]),
     (257, 0, 257, &[(0x23, 256, 0), (0x25, 256, 1), (0x27, 0, 0), (0x26, 0, 2), (0x29, 256, 0), (0x2a, 256, 3), (0x2b, 256, 0)]),
@@ -125,6 +145,8 @@ const FEW: [(u64, u64, u64, &[Call]); 9] = [
         (0x1a, 2047, 1), (0x1b, 2048, 0), (0x1b, 2046, 0), (0x17, 0, 2), (0x19, 0, 0), (0x80, 36_881, 0), (0x80, 36_880, 0), (0x14, 3, 0),
         (0x1d, 4097, 0), (0x62, 0, 0), (0x27, 0, 0),
     ]),
+    // 2,047 is half of 4,096 - 1
+    (4096, 4090, 4095, &[(0x07, 2046, 0), (0x90, 2047, 1), (0x91, 2047, 0), (0x07, 2047, 0), (0x91, 2047, 0), (0x90, 2047, 1)]),
     // Above 4,096 slots every state is invalid, and a making is refused. Whatever the first's total (08), none is left; the second's (09) stays.
     (4097, 1, 2, &[
         (0x08, 5, 0), (0x09, 6, 0), (0x16, 0, 1), (0x10, 0, 0), (0x08, u64::MAX, 0), (0x11, 1, 0), (0x08, 5, 0), (0x20, 0, 0),

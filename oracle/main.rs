@@ -1,4 +1,5 @@
 // The Rust side of the comparison: makes cases of `replay`, answers them with VecDeque, Vec and paper 01's rules, and compares.
+mod allowance;
 mod best;
 mod by_hand;
 mod compare;
@@ -18,11 +19,12 @@ mod selfcheck;
 mod tally;
 mod totals;
 mod wrong;
+mod wrong_allowance;
 
 use std::io::{BufRead, Write};
 use std::process::exit;
 
-const USAGE: &str = "oracle selfcheck             paper 01's trays and a few more, against results written by hand; wrong rules of a total
+const USAGE: &str = "oracle selfcheck             paper 01's trays and a few more, against results written by hand; wrong rules of a total and of an allowance
 oracle fixed DIR             writes the fixed list: DIR/stdin and what it must print, DIR/stdout
 oracle best REPLAY           tries on all small rings that no layout moves fewer plates than an insertion or removal does
 oracle compare REPLAY [M]    compares the program REPLAY on all short cases and on random ones, M million calls in all (5)

@@ -12,6 +12,7 @@ pub enum Act {
     Len, IsEmpty, Read, AskRange,
     Reserve, TryReserve, TryReserveExact,
     Write, PushBack, PushFront, PopBack, PopFront, Insert, Remove, SwapRemove,
+    InsertWithin, RemoveWithin,
     Truncate, Resize, Clear, Extend,
     Range, AsSlice, AsRef, Deref, AsMutSlice, DerefMut,
     Append, SplitOff, Clone, Same, SameAsVector,
@@ -34,7 +35,7 @@ const fn op(code: u8, kind: Kind, act: Act, name: &'static str, numbers: &'stati
 use Act::*;
 use Kind::*;
 
-pub const OPS: [Op; 66] = [
+pub const OPS: [Op; 68] = [
     op(0x10, Ring, New, "ring new", &[0, 1]),
     op(0x11, Ring, WithCapacity, "ring with_capacity", &[0, 1, 6]),
     op(0x12, Ring, Len, "ring len", &[0, 1]),
@@ -101,6 +102,8 @@ pub const OPS: [Op; 66] = [
     op(0x76, Vector, FromIter, "vector from_iter", &[0, 1, 2, 3, 5, 6]),
     op(0x80, Ring, Store, "ring stored", &[0, 1, 6]),
     op(0x81, Vector, Store, "vector stored", &[0, 1, 6]),
+    op(0x90, Ring, InsertWithin, "ring insert_within", &[0, 1, 3, 6, 12]),
+    op(0x91, Ring, RemoveWithin, "ring remove_within", &[0, 1, 3, 12]),
 ];
 
 pub const PLACING: std::ops::RangeInclusive<u8> = 1..=9;
@@ -134,23 +137,34 @@ pub fn is_part(act: Act) -> bool {
     matches!(act, Range | AsSlice | AsRef | Deref | AsMutSlice | DerefMut)
 }
 
+// The call without an allowance, of one that has it.
+pub fn plain(act: Act) -> Option<Act> {
+    match act {
+        InsertWithin => Some(Insert),
+        RemoveWithin => Some(Remove),
+        _ => None,
+    }
+}
+
 // These put b into a container.
 pub fn has_entry(act: Act) -> bool {
-    matches!(act, Write | PushBack | PushFront | Insert | Resize | FromElem | AsMutSlice | DerefMut)
+    matches!(act, Write | PushBack | PushFront | Insert | InsertWithin | Resize | FromElem | AsMutSlice | DerefMut)
 }
 
 // These look at a.
 pub fn has_position(act: Act) -> bool {
     matches!(act, WithCapacity | FromElem | Read | AskRange | Reserve | TryReserve | TryReserveExact | Write | Insert | Remove | SwapRemove)
         || matches!(act, Truncate | Resize | Extend | Range | AsMutSlice | DerefMut | SplitOff | PeekFront | PeekBack | Store)
+        || matches!(act, InsertWithin | RemoveWithin)
 }
 
 // Whether a done call may put entries into the first container, and into the second.
 pub fn puts(act: Act) -> [bool; 2] {
-    [matches!(act, Write | PushBack | PushFront | Insert | Resize | Extend | Append), matches!(act, SplitOff | Clone | FromIter)]
+    let first = matches!(act, Write | PushBack | PushFront | Insert | InsertWithin | Resize | Extend | Append);
+    [first, matches!(act, SplitOff | Clone | FromIter)]
 }
 
 // Whether it may take entries out of them.
 pub fn takes(act: Act) -> [bool; 2] {
-    [matches!(act, Write | PopBack | PopFront | Remove | SwapRemove | Truncate | Resize | Clear | SplitOff), act == Append]
+    [matches!(act, Write | PopBack | PopFront | Remove | RemoveWithin | SwapRemove | Truncate | Resize | Clear | SplitOff), act == Append]
 }

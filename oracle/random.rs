@@ -1,4 +1,5 @@
 // Longer random cases: a desk is placed, then calls follow one another on it, with arguments near every bound and damaged lines in between.
+use crate::allowance;
 use crate::damaged;
 use crate::desk::{Tray, MOST_SLOTS};
 use crate::ops::{self, Act::*, Kind, Kind::*, Op, OPS};
@@ -207,7 +208,25 @@ impl Random {
             act if ops::has_entry(act) => self.entry(),
             _ => self.rng.next(),
         };
+        match ops::plain(op.act) {
+            Some(_) => self.within(pen, op, a, b),
+            None => drop(pen.line(op.code, a, b)),
+        }
+    }
+
+    // With about as many allowed as would move, or any number. Then the cursor is placed as it was, for the calls that walk.
+    fn within(&mut self, pen: &mut Pen, op: &Op, a: u64, b: u64) {
+        let (front, back) = (pen.desk.front, pen.desk.back);
+        let count = allowance::count(op.act, pen.desk.first.len, a);
+        let allowed = match self.rng.below(10) {
+            0 => self.rng.pick(&WIDE),
+            1 => self.rng.next(),
+            2..=3 => self.position(pen),
+            _ => count.wrapping_add(self.rng.below(3)).wrapping_sub(1),
+        };
+        pen.set_cursor(allowed, back);
         pen.line(op.code, a, b);
+        pen.set_cursor(front, back);
     }
 
     fn text(&mut self, pen: &Pen) -> u64 {

@@ -1,9 +1,10 @@
-// Paper 01's rules of layout and refusal, with request 03's of an empty ring and request 10's of the slot reported, written from the papers: validity,
-// slots, heads, numbers, carrying, moves, reports, stored form. No list is made here.
+// Paper 01's rules of layout and refusal, with request 03's of an empty ring, request 10's of the slot reported and request 11's of an allowance, written
+// from the papers: validity, slots, heads, numbers, carrying, moves, reports, stored form. No list is made here.
 use crate::ops::{self, Act, Act::*, Kind, Kind::*};
 
 const MOST: u64 = 4096;
 pub const NO_SLOT: u64 = 65_535; // what is reported where there is no slot to report
+pub const TOO_MANY_MOVES: u8 = 12;
 
 #[derive(Clone, Copy, PartialEq, Eq, Debug)]
 pub struct State {
@@ -138,6 +139,11 @@ fn carried(q: &Asked, len_after: u64, j: u64) -> Option<u64> {
 pub fn moves(q: &Asked, after: State) -> u64 {
     let moved = |j: u64| carried(q, after.len, j).is_some_and(|k| slot(q.kind, q.first, j) != slot(q.kind, after, k));
     (0..q.first.len).filter(|&j| moved(j)).count() as u64
+}
+
+// Of a call with an allowance, by what the plain call answers: 12 where that is done and its moves are more, so that every other number comes before 12.
+pub fn exceeds(number: u8, moves: u64, allowance: u64) -> bool {
+    number == 0 && moves > allowance
 }
 
 // What a call that is done reports, `after` being the first container's state then: where the entry stands that was put, read or written, or where the

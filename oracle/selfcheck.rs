@@ -1,10 +1,14 @@
 // Checks the desk's answers against results written by hand: paper 01's cases a to m and its listing, request 03's emptied rings, request 10's slots,
-// request 04's totals (by_hand.rs), and answers to the byte for what those leave out; and that a wrong rule of a total is noticed (wrong.rs).
+// request 04's totals (by_hand.rs), request 11's allowances (allowance.rs), and answers to the byte for what those leave out; and that a wrong rule of a
+// total or of an allowance is noticed (wrong.rs, wrong_allowance.rs).
+use crate::allowance;
 use crate::by_hand;
 use crate::desk::{Desk, Taken};
+use crate::fixed;
 use crate::ops::{self, Op, OPS};
 use crate::pen::Pen;
 use crate::wrong;
+use crate::wrong_allowance;
 
 struct Case {
     name: &'static str,
@@ -14,14 +18,14 @@ struct Case {
     to: (u64, u64, &'static [u32]),
 }
 
-type Answer = (u8, u32, u64, u64); // number, value, moves, slot
-type Tray = (u64, u64, &'static [u32]);
+pub type Answer = (u8, u32, u64, u64); // number, value, moves, slot
+pub type Tray = (u64, u64, &'static [u32]);
 const W: Tray = (2, 3, &[11, 0, 9, 10]);
 const U: Tray = (0, 3, &[1, 2, 3, 9]);
 const NONE: Tray = (0, 0, &[]);
 const FULL: Tray = (0, 1, &[6]);
 const OFF: Tray = (4, 0, &[0, 0, 0, 0]);
-const NO: u64 = 0xffff; // no slot is reported
+pub const NO: u64 = 0xffff; // no slot is reported
 
 const fn case(name: &'static str, from: Tray, call: (u8, u64, u64), answer: Answer, to: Tray) -> Case {
     Case { name, from, call, answer, to }
@@ -152,23 +156,26 @@ pub fn run() -> Result<(), String> {
     let bytes = to_the_byte()?;
     let counts = shorter_side()?;
     let (found, none) = looked_for()?;
-    let totals = by_hand::agree()?;
-    let rules = wrong::noticed()?;
+    let (totals, allowed) = (by_hand::agree()?, allowance::agree()?);
+    let (twelve, other) = allowance::held()?;
+    let list = fixed::input();
+    let (of_total, of_allowance) = (wrong::noticed(&list)?, wrong_allowance::noticed(&list)?);
     let (paper, emptied, reported) = (PAPER.len(), EMPTIED.len(), REPORTED.len());
-    println!("oracle selfcheck: {paper} cases of paper 01, its listing, {emptied} of request 03, {reported} of request 10, {totals} of request 04 and {bytes} answers to the byte");
-    println!("agree with what was written by hand, {counts} counts of moves with the paper's formula for a ring, and {found} slots reported with where the entry is");
-    println!("found; {none} calls report none, as they must; the fixed list notices each of {rules} wrong rules of a total");
+    println!("oracle selfcheck: {paper} cases of paper 01, its listing, {emptied} of request 03, {reported} of request 10, {totals} of request 04, {allowed} of request 11 and");
+    println!("{bytes} answers to the byte agree with what was written by hand, {counts} counts of moves with the paper's formula for a ring, and {found} slots reported");
+    println!("with where the entry is found; {none} calls report none, as they must; {twelve} calls with an allowance answer 12, by that formula, and {other} as without it;");
+    println!("the fixed list notices each of {of_total} wrong rules of a total and each of {of_allowance} of an allowance");
     Ok(())
 }
 
-fn placed(head: u64, len: u64, slots: Vec<u32>) -> Desk {
+pub fn placed(head: u64, len: u64, slots: Vec<u32>) -> Desk {
     let mut desk = Desk::default();
     (desk.first.head, desk.first.len, desk.first.slots) = (head, len, slots);
     desk
 }
 
 // Capacity, head and length of the small valid rings.
-fn states() -> impl Iterator<Item = (u64, u64, u64)> {
+pub fn states() -> impl Iterator<Item = (u64, u64, u64)> {
     let all = (1..8u64).flat_map(|c| (0..c).flat_map(move |h| (0..=c).map(move |n| (c, h, n))));
     all.filter(|&(_, head, len)| len > 0 || head == 0)
 }
@@ -197,8 +204,12 @@ fn looked_for() -> Result<(u64, u64), String> {
     let (mut found, mut none) = (0, 0);
     for (cap, head, len) in states() {
         for op in OPS.iter() {
-            for i in if ops::has_position(op.act) { 0..=cap + 1 } else { 0..=0 } {
-                let before = placed(head, len, (0x10..).take(cap as usize).collect());
+            let places = if ops::has_position(op.act) { 0..=cap + 1 } else { 0..=0 };
+            // up to the most that moves on 7 slots
+            let allowed = if ops::plain(op.act).is_some() { 0..=3 } else { 0..=0 };
+            for (i, allowance) in places.flat_map(|i| allowed.clone().map(move |k| (i, k))) {
+                let mut before = placed(head, len, (0x10..).take(cap as usize).collect());
+                before.front = allowance;
                 let reports = one_found(&before, op, i).map_err(|says| format!("{} {i}, capacity {cap}, head {head}, length {len}: {says}", op.name))?;
                 *(if reports { &mut found } else { &mut none }) += 1;
             }
@@ -216,8 +227,8 @@ fn one_found(before: &Desk, op: &Op, i: u64) -> Result<bool, String> {
     let holds = match op.code {
         // reads; then writes, pushes and inserts; then pops and removes
         0x13 | 0x23 => Some((&after, value)),
-        0x15 | 0x16 | 0x17 | 0x1a | 0x25 | 0x26 | 0x2a => Some((&after, entry)),
-        0x18 | 0x19 | 0x1b | 0x27 | 0x29 | 0x2b => Some((before, value)),
+        0x15 | 0x16 | 0x17 | 0x1a | 0x25 | 0x26 | 0x2a | 0x90 => Some((&after, entry)),
+        0x18 | 0x19 | 0x1b | 0x27 | 0x29 | 0x2b | 0x91 => Some((before, value)),
         _ => None,
     };
     let says = match holds.filter(|_| number == 0) {
@@ -239,7 +250,7 @@ fn listing() -> Result<(), String> {
 }
 
 // Number, value, moves and slot, read back from what is printed.
-fn called(desk: &mut Desk, (code, a, b): (u8, u64, u64)) -> Result<Answer, String> {
+pub fn called(desk: &mut Desk, (code, a, b): (u8, u64, u64)) -> Result<Answer, String> {
     let mut out = Vec::new();
     let taken = desk.take_numbers(code, a, b, &mut out);
     let text = String::from_utf8(out).map_err(|e| e.to_string())?;
@@ -251,7 +262,7 @@ fn called(desk: &mut Desk, (code, a, b): (u8, u64, u64)) -> Result<Answer, Strin
 }
 
 // Lines with what they print, both written by hand: `_` stands for ten 0, so that they can be read.
-const BYTES: [(&str, &str); 49] = [
+const BYTES: [(&str, &str); 57] = [
     ("01_000004_000000", ""),
     ("02_0000002_0000003", "! not 34 lower-case hexadecimal digits\n"),
     ("02_000002_000003", ""),
@@ -310,6 +321,15 @@ const BYTES: [(&str, &str); 49] = [
     ("25_000000_000002", "00 00000009 _000000 _000000 _000002 _000000 _000002 _000002 _000002 0000 fffffffffffffff9 _000021\n00000002\n00000000\n00000008\n00000008\n00000009\n"),
     ("04_000001_000000", ""),
     ("26_000000_000007", "00 00000000 _000000 _000000 _000003 _000000 _000000 _000002 _000002 0002 _000000 _000000\n00000002\n00000000\n00000007\n00000000\n"),
+    // 2, 0, 7 in three slots: with none allowed the middle one stays, with one it goes, and 5 comes in its place; then there is no room, whatever is allowed
+    ("07_000000_000009", ""),
+    ("91_000001_000000", "0c 00000000 _000000 _000000 _000003 _000000 _000000 _000000 _000009 ffff _000000 _000000\n00000002\n00000000\n00000007\n00000000\n"),
+    ("07_000001_000009", ""),
+    ("91_000001_000000", "00 00000000 _000001 _000000 _000002 _000000 _000000 _000001 _000009 0001 _000000 _000000\n00000002\n00000007\n00000000\n00000000\n"),
+    ("90_0000011_00000", "! out of reach\n"),
+    ("90_000001_000005", "00 00000000 _000001 _000000 _000003 _000000 _000000 _000001 _000009 0001 _000005 _000000\n00000002\n00000005\n00000007\n00000000\n"),
+    ("07ffffffffffffffff_000009", ""),
+    ("90_000001_000005", "06 00000000 _000000 _000000 _000003 _000000 _000000 ffffffffffffffff _000009 ffff _000005 _000000\n00000002\n00000005\n00000007\n00000000\n"),
 ];
 
 fn to_the_byte() -> Result<usize, String> {

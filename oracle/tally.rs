@@ -10,17 +10,20 @@ const UP: u8 = 4; // above 2^64 - 1 with what is put in
 const DOWN: u8 = 8; // below 0 with what is taken out
 const WORDS: [(u8, &str); 4] = [(RIGHT, "right"), (WRONG, "wrong"), (UP, "passing 2^64"), (DOWN, "passing 0")];
 
+const NUMBERS: [u8; 8] = [0, 1, 2, 3, 4, 5, 6, 12]; // that a call of `replay` can answer
+const UP_TO: usize = 13;
+
 #[derive(Clone)]
 pub struct Tally {
-    calls: Vec<[u64; 7]>, // by code
-    totals: Vec<[[u8; 2]; 7]>, // of the first container and of the second, the kinds that were met
+    calls: Vec<[u64; UP_TO]>, // by code
+    totals: Vec<[[u8; 2]; UP_TO]>, // of the first container and of the second, the kinds that were met
     pub placed: u64,
     pub refused: u64, // lines that couldn't be taken
 }
 
 impl Tally {
     pub fn new() -> Tally {
-        Tally { calls: vec![[0; 7]; 256], totals: vec![[[0; 2]; 7]; 256], placed: 0, refused: 0 }
+        Tally { calls: vec![[0; UP_TO]; 256], totals: vec![[[0; 2]; UP_TO]; 256], placed: 0, refused: 0 }
     }
 
     pub fn count(&mut self, taken: Taken) {
@@ -62,11 +65,11 @@ impl Tally {
     // A row for each operation; '-' where paper 01 gives it no such number.
     pub fn table(&self) -> String {
         let mut out = format!("{:<28}{:>10}", "calls", "all");
-        (0..7).for_each(|number| write!(out, "{number:>10}").unwrap());
+        NUMBERS.iter().for_each(|number| write!(out, "{number:>10}").unwrap());
         for op in &OPS {
             let all: u64 = self.calls[op.code as usize].iter().sum();
             write!(out, "\n{:02x} {:<25}{all:>10}", op.code, op.name).unwrap();
-            for number in 0..7 {
+            for number in NUMBERS {
                 match (self.met(op, number), op.numbers.contains(&number)) {
                     (0, false) => write!(out, "{:>10}", "-").unwrap(),
                     (met, _) => write!(out, "{met:>10}").unwrap(),

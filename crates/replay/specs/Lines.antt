@@ -15,14 +15,15 @@ among op a b = leb a op && leb op b
 -- the operations
 unfoldable pub isKnown : (op : ℕ) → Bool
 isKnown op =
-    (((((((among op 0x01 0x09 || among op 0x10 0x1e) || among op 0x20 0x33) || among op 0x38 0x3d) || among op 0x40 0x44) || among op 0x50 0x53)
-    || among op 0x60 0x66) || among op 0x70 0x76) || among op 0x80 0x81
+    ((((((((among op 0x01 0x09 || among op 0x10 0x1e) || among op 0x20 0x33) || among op 0x38 0x3d) || among op 0x40 0x44) || among op 0x50 0x53)
+    || among op 0x60 0x66) || among op 0x70 0x76) || among op 0x80 0x81)
+    || among op 0x90 0x91
 
 -- those whose b is an entry
 unfoldable pub takesEntry : (op : ℕ) → Bool
 takesEntry op =
-    ((((((((eqb op 0x03 || eqb op 0x06) || among op 0x15 0x17) || eqb op 0x1a) || eqb op 0x1d) || among op 0x25 0x26) || eqb op 0x28) || eqb op 0x2a)
-    || eqb op 0x2d) || among op 0x3c 0x3d
+    (((((((((eqb op 0x03 || eqb op 0x06) || among op 0x15 0x17) || eqb op 0x1a) || eqb op 0x1d) || among op 0x25 0x26) || eqb op 0x28) || eqb op 0x2a)
+    || eqb op 0x2d) || among op 0x3c 0x3d) || eqb op 0x90
 
 -- slots above 4,200, a slot that isn't there, an entry above 32 bits, more numbers than the second has slots, a text above 40,000 bytes
 unfoldable pub isBeyond : (entry : Bool) (op a b cap cap2 : ℕ) → Bool

@@ -26,7 +26,8 @@ pub(crate) fn call(
         0x50..=0x53 => desk.after_vectors(on_vectors(op, q.a, desk, slots, theirs)),
         0x60..=0x66 => over_ring(op, q.a, desk, slots, theirs),
         0x70..=0x76 => over_vector(op, q.a, desk, slots, theirs),
-        _ => crate::shows::stored_form(q, desk, slots, text),
+        0x80..=0x81 => crate::shows::stored_form(q, desk, slots, text),
+        _ => desk.after_ring(within(q, desk, slots)), // 90 and 91
     }
 }
 
@@ -47,6 +48,17 @@ fn on_ring(op: u64, a: usize, x: u32, over: Ring, slots: &mut [u32]) -> ring::An
         0x1c => over.truncate(slots, a),
         0x1d => over.resize(slots, a, x),
         _ => over.clear(slots), // 1e
+    }
+}
+
+// With an allowance, which is the cursor's front: a line has no third number. The cursor stays.
+fn within(q: Asked, desk: Desk, slots: &mut [u32]) -> ring::Answer {
+    let op = q.op;
+    let over = desk.first;
+    let allowance = desk.cursor.front;
+    match op {
+        0x90 => over.insert_within(slots, q.a, q.x, allowance),
+        _ => over.remove_within(slots, q.a, allowance), // 91
     }
 }
 

@@ -35,6 +35,7 @@ fn known(op: u64) -> bool
         | ((0x60 <= op) & (op <= 0x66))
         | ((0x70 <= op) & (op <= 0x76))
         | ((0x80 <= op) & (op <= 0x81))
+        | ((0x90 <= op) & (op <= 0x91))
 }
 
 // Whether b is to be an entry.
@@ -51,6 +52,7 @@ fn takes_entry(op: u64) -> bool
         | (op == 0x2a)
         | (op == 0x2d)
         | ((0x3c <= op) & (op <= 0x3d))
+        | (op == 0x90)
 }
 
 // Slots above 4,200, a slot that isn't there, an entry above 32 bits, more numbers than the second has slots, a text above 40,000 bytes.

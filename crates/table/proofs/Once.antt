@@ -11,8 +11,6 @@ use Rattle.table.proofs.invalid_vector_or_full as invalid-vector-or-ful
 use Rattle.table.proofs.invalid_ring_or_no_step as invalid-ring-or-no-step·fn
 use Rattle.table.proofs.invalid_vector_or_no_step as invalid-vector-or-no-step·fn
 use Rattle.table.proofs.astray as astray·fn
-use Rattle.table.proofs.within.insert_over as insert-over·fn
-use Rattle.table.proofs.within.remove_over as remove-over·fn
 
 -- a are the arguments, r and r′ are flags, and e and e′ the arguments as they are at the return
 module _ (κs : Lfts 0) where
@@ -42,9 +40,3 @@ module _ (κs : Lfts 0) where
 
   pub astray-once : Twice astray·fn.ended κs (astray·fn.Reads.Learnt κs) (λ r e r′ e′. r ≡ r′)
   astray-once a r r′ e e′ p q = p .is ∙ sym (q .is)
-
-  pub insert-over-once : Twice insert-over·fn.ended κs (insert-over·fn.Reads.Learnt κs) (λ r e r′ e′. r ≡ r′)
-  insert-over-once a r r′ e e′ p q = p ∙ sym q
-
-  pub remove-over-once : Twice remove-over·fn.ended κs (remove-over·fn.Reads.Learnt κs) (λ r e r′ e′. r ≡ r′)
-  remove-over-once a r r′ e e′ p q = p ∙ sym q

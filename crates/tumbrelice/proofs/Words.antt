@@ -12,8 +12,7 @@ use Rattle.table.specs.Table.{after}
 use Rattle.table.specs.Does.{Outcome, refused, done, does, rowOf, refusalsOf, made}
 use Rattle.table.specs.Reported.{noSlot, reported}
 use Rattle.table.specs.Totals.{totalAfter}
-use Rattle.table.specs.Within.{exceeds, doesWithin, reportedWithin, totalWithin}
-use Rattle.slots.proofs.Totals.{no-change}
+use Rattle.table.specs.Within.{doesWithin}
 use Rattle.table.proofs.Laws.Refusals.{either}
 use Rattle.table.proofs.Laws.Done.{Homed, homed, done-is}
 use Rattle.table.proofs.Laws.Looks.{look-done}
@@ -21,13 +20,14 @@ use Rattle.table.proofs.Theorems.Refused.{few-numbers, few-numbers-made, call-r
 use Rattle.table.proofs.Theorems.Moves.{few-moves, moves-made}
 use Rattle.table.proofs.Theorems.Reported.{fits-16}
 use Rattle.table.proofs.Theorems.Totals.{same-total, refused-total}
+use Rattle.table.proofs.Theorems.Within.{within-refused, few-numbers-within, few-moves-within, fits-16-within}
 use Rattle.ring.specs.declared.Ring.{Ring}
 use Rattle.ring.specs.declared.Answer as ringAnswer
 use Rattle.ring.specs.Seen as rings
 use Rattle.vector.specs.declared.Vector.{Vector}
 use Rattle.vector.specs.declared.Answer as vectorAnswer
 use Rattle.vector.specs.Seen as vectors
-use Rattle.tumbrelice.specs.Heard.{Worded, heardAt, heard, Held, Hears, HearsWithin, HearsMade, ringIn, ringOut, vectorIn, vectorOut, unlessRefused, ringTray, vectorTray, ringOf, vectorOf}
+use Rattle.tumbrelice.specs.Heard.{Worded, slotIn, heardAt, heard, Held, Hears, HearsWithin, HearsMade, ringIn, ringOut, vectorIn, vectorOut, unlessRefused, ringTray, vectorTray, ringOf, vectorOf}
 
 -- the digits of a word
 pub worded : (m x k n word : ℕ) → k < 4096 → n < 65536 → x < 4294967296 → word ≡ ((m * 4096 + k) * 65536 + n) * 4294967296 + x → Worded m x k n word
@@ -61,6 +61,17 @@ module _ (call : Call) (r : Ring) (s z : List ℕ) (a : ringAnswer.Answer) (e : 
 
   pub ring-slot-fits : a .slot < 65536
   ring-slot-fits = slot-fits ring call (rings.tray r s) _ (e .row) (a .slot) (e .slot)
+
+-- with an allowance too: 12 takes 4 bits
+module _ (allowance : ℕ) (call : Call) (r : Ring) (s z : List ℕ) (a : ringAnswer.Answer) (e : rings.MeetsWithin allowance call r s a z) where
+  pub within-number-fits : a .number < 16
+  within-number-fits = omega (arith, few-numbers-within allowance ring call (rings.tray r s), ap (λ (o : Outcome). o .number) (e .row))
+
+  pub within-moves-fit : has call ring ≡ true → a .moves < 4096
+  within-moves-fit of = omega (arith, few-moves-within allowance ring call (rings.tray r s) of, ap (λ (o : Outcome). o .moves) (e .row))
+
+  pub within-slot-fits : a .slot < 65536
+  within-slot-fits = omega (arith, fits-16-within allowance ring call (rings.tray r s), e .slot)
 
 module _ (call : Call) (v : Vector) (s z : List ℕ) (a : vectorAnswer.Answer) (e : vectors.Meets call v s a z) where
   pub vector-number-fits : a .number < 16
@@ -96,6 +107,8 @@ module _ (m : Making) (s z : List ℕ) (a : vectorAnswer.Answer) (e : vectors.Ma
 pub ruleset making-fits = (ring-made-number, ring-made-moves, ring-made-slot, vector-made-number, vector-made-moves, vector-made-slot)
 
 pub ruleset ring-fits = (ring-number-fits, ring-moves-fit, ring-slot-fits)
+
+pub ruleset within-fits = (within-number-fits, within-moves-fit, within-slot-fits)
 
 pub ruleset vector-fits = (vector-number-fits, vector-moves-fit, vector-slot-fits)
 
@@ -137,17 +150,34 @@ left : (k : Kind) (call : Call) (t : Tray) (o : Outcome) (n n′ : ℕ) → o �
 left k call t o n n′ e total small j refuses =
     (ap (λ o. o .tray) (call-refused k call t o e j refuses), total ∙ sym (refused-total k call t o j n e refuses small))
 
+-- whatever outcome o, slot p and total n a call on a ring promises: they are what is heard of it. Where it is refused o has the container as it was, and n is the total that was given.
+pub ring-says : (st st′ s s′ : List ℕ) (a : ringAnswer.Answer) (word : ℕ) (o : Outcome) (p n : ℕ) → rings.seen a s′ ≡ o → a .slot ≡ p → a .ring .total .sum ≡ n
+    → ((j : ℕ) → o .number ≡ suc j → (o .tray ≡ ringTray st s) × (n ≡ ringIn st .total .sum)) → st′ ≡ unlessRefused (a .number) (ringOut (a .ring)) st
+    → Worded (a .number) (a .value) (a .moves) (a .slot) word → (heard word (ringTray st′ s′) ≡ o) × (slotIn word ≡ p) × (ringIn st′ .total .sum ≡ n)
+ring-says st st′ s s′ a word o p n is slot total stays es w =
+    let out = ring-comes-out st s s′ (a .ring) (a .number) (λ j e.
+    let was = stays j (ap (λ (o : Outcome). o .number) (sym is) ∙ e) in
+    (ap (λ (o : Outcome). o .tray) is ∙ was .0, total ∙ was .1)) in
+    rw es (ap (heard word) (out .0) ∙ heard-at _ _ _ _ word (rings.tray (a .ring) s′) nowhere _ w is, w .slot ∙ slot, out .1 ∙ total)
+
 -- THE RULES of the exported calls: the state goes in, the call meets its promise, the state comes out, and the answer is a word.
 pub ring-hears : (call : Call) (st st′ s s′ : List ℕ) (r : Ring) (a : ringAnswer.Answer) (word : ℕ) → r ≡ ringIn st → r .total .sum < 2 ^ 64 → rings.Meets call r s a s′
     → st′ ≡ unlessRefused (a .number) (ringOut (a .ring)) st → Worded (a .number) (a .value) (a .moves) (a .slot) word → Hears ring call (ringOf st s) word (ringOf st′ s′)
 ring-hears call st st′ s s′ r a word er small e es w =
     let e′ : rings.Meets call (ringIn st) s a s′ = rw er at e in
-    let out = ring-comes-out st s s′ (a .ring) (a .number) (left ring call (ringTray st s) (rings.seen a s′) _ _ (e′ .row) (e′ .total) (rw er at small)) in
-    rw es (record {
-      row = ap (heard word) (out .0) ∙ heard-at _ _ _ _ word (rings.tray (a .ring) s′) nowhere _ w (e′ .row);
-      slot = w .slot ∙ e′ .slot;
-      total = out .1 ∙ e′ .total;
-    })
+    let all = ring-says st st′ s s′ a word _ _ _ (e′ .row) (e′ .slot) (e′ .total) (left ring call (ringTray st s) _ _ _ refl refl (rw er at small)) es w in
+    record { row = all .0; slot = all .1; total = all .2 }
+
+-- with an allowance (request 11)
+pub ring-hears-within : (allowance : ℕ) (call : Call) (st st′ s s′ : List ℕ) (r : Ring) (a : ringAnswer.Answer) (word : ℕ) → r ≡ ringIn st → r .total .sum < 2 ^ 64
+    → rings.MeetsWithin allowance call r s a s′ → st′ ≡ unlessRefused (a .number) (ringOut (a .ring)) st → Worded (a .number) (a .value) (a .moves) (a .slot) word
+    → HearsWithin allowance ring call (ringOf st s) word (ringOf st′ s′)
+ring-hears-within allowance call st st′ s s′ r a word er small e es w =
+    let e′ : rings.MeetsWithin allowance call (ringIn st) s a s′ = rw er at e in
+    let all = ring-says st st′ s s′ a word _ _ _ (e′ .row) (e′ .slot) (e′ .total) (λ j refuses.
+    let was = within-refused allowance ring call (ringTray st s) (doesWithin allowance ring call (ringTray st s)) refl j refuses in
+    (was .0, was .2 _ (rw er at small))) es w in
+    record { row = all .0; slot = all .1; total = all .2 }
 
 pub vector-hears : (call : Call) (st st′ s s′ : List ℕ) (v : Vector) (a : vectorAnswer.Answer) (word : ℕ) → v ≡ vectorIn st → v .total .sum < 2 ^ 64 → vectors.Meets call v s a s′
     → st′ ≡ unlessRefused (a .number) (vectorOut (a .vector)) st → Worded (a .number) (a .value) (a .moves) (a .slot) word → Hears vector call (vectorOf st s) word (vectorOf st′ s′)
@@ -159,31 +189,6 @@ vector-hears call st st′ s s′ v a word ev small e en w =
       slot = w .slot ∙ e′ .slot;
       total = out .1 ∙ e′ .total;
     })
-
--- With an allowance (request 11): where more would move the word says 12 and the container is as it was; else it is the plain call's.
-module _ (allowance : ℕ) (k : Kind) (call : Call) (b : Held) (word : ℕ) where
-  pub hears-12 : b .total < 2 ^ 64 → exceeds allowance (does k call (b .tray)) ≡ true → Worded 12 0 0 noSlot word → HearsWithin allowance k call b word b
-  unfolding doesWithin reportedWithin totalWithin
-  hears-12 small more w = record {
-    row = rw more (heard-at 12 0 0 noSlot word (b .tray) nowhere _ w refl);
-    slot = rw more (w .slot);
-    total = rw more (no-change (b .total) _ small);
-  }
-
-  pub hears-plain : (t : Held) → exceeds allowance (does k call (b .tray)) ≡ false → Hears k call b word t → HearsWithin allowance k call b word t
-  unfolding doesWithin reportedWithin totalWithin reported totalAfter
-  hears-plain t enough h = record { row = rw enough (h .row); slot = rw enough (h .slot); total = rw enough (h .total) }
-
--- what was read off the state's numbers is of the container that they are
-pub ring-hears-12 : (allowance : ℕ) (call : Call) (st s : List ℕ) (r : Ring) (word : ℕ) → r ≡ ringIn st → r .total .sum < 2 ^ 64 → exceeds allowance (does ring call (rings.tray r s)) ≡ true
-    → Worded 12 0 0 noSlot word → HearsWithin allowance ring call (ringOf st s) word (ringOf st s)
-ring-hears-12 allowance call st s r word er small more w = hears-12 allowance ring call (ringOf st s) word (rw er at small) (rw er at more) w
-
-pub ring-hears-plain : (allowance : ℕ) (call : Call) (st st′ s s′ : List ℕ) (r : Ring) (word : ℕ) → r ≡ ringIn st → exceeds allowance (does ring call (rings.tray r s)) ≡ false
-    → Hears ring call (ringOf st s) word (ringOf st′ s′) → HearsWithin allowance ring call (ringOf st s) word (ringOf st′ s′)
-ring-hears-plain allowance call st st′ s s′ r word er enough h = hears-plain allowance ring call (ringOf st s) word (ringOf st′ s′) (rw er at enough) h
-
-pub ruleset within-heard = (ring-hears-12, ring-hears-plain)
 
 -- a making's state comes out whole
 pub ring-made-heard : (m : Making) (st′ s s′ : List ℕ) (a : ringAnswer.Answer) (word : ℕ) → rings.Makes m s a s′ → st′ ≡ ringOut (a .ring)

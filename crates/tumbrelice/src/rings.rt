@@ -105,7 +105,6 @@ pub extern "C" fn tum_ring_remove(slots: &mut [u32], state: &mut [u64; 3], i: us
     word(a.number, a.value, a.moves, a.slot)
 }
 
-// With an allowance: the test, then the plain call's own function, whose code is there once.
 #[no_mangle]
 pub extern "C" fn tum_ring_insert_within(
     slots: &mut [u32],
@@ -117,10 +116,9 @@ pub extern "C" fn tum_ring_insert_within(
     ensures { λ r. ⌜ HearsWithin allowance ring (insert i x) (ringOf (now (state .entry)) (now (slots .entry))) r (ringOf (now (state .exit)) (now (slots .exit))) ⌝ }
 {
     let r = ring_in(state);
-    if table::within::insert_over(slots.len(), r.head, r.len, i, allowance) {
-        return word(12, 0, 0, slots::NO_SLOT);
-    }
-    tum_ring_insert(slots, state, i, x)
+    let a = r.insert_within(slots, i, x, allowance);
+    ring_out(state, a.number, a.ring);
+    word(a.number, a.value, a.moves, a.slot)
 }
 
 #[no_mangle]
@@ -133,10 +131,9 @@ pub extern "C" fn tum_ring_remove_within(
     ensures { λ r. ⌜ HearsWithin allowance ring (remove i) (ringOf (now (state .entry)) (now (slots .entry))) r (ringOf (now (state .exit)) (now (slots .exit))) ⌝ }
 {
     let r = ring_in(state);
-    if table::within::remove_over(slots.len(), r.head, r.len, i, allowance) {
-        return word(12, 0, 0, slots::NO_SLOT);
-    }
-    tum_ring_remove(slots, state, i)
+    let a = r.remove_within(slots, i, allowance);
+    ring_out(state, a.number, a.ring);
+    word(a.number, a.value, a.moves, a.slot)
 }
 
 #[no_mangle]

@@ -9,7 +9,7 @@ use Rattle.slots.specs.Layout.{Kind}
 use Rattle.slots.proofs.Totals.{no-change}
 use Rattle.slots.proofs.Words.{below?, same?}
 use Rattle.table.specs.Tray.{Tray, list, nowhere}
-use Rattle.table.specs.Calls.{Call}
+use Rattle.table.specs.Calls.{Call, has}
 use Rattle.table.specs.Table.{Refusal, numberOf, firstInvalid, secondInvalid, beyond, empty, taken, full, after}
 use Rattle.table.specs.Does.{Outcome, refused, done, rowOf, refusalsOf, does}
 use Rattle.table.specs.Numbers.{Applies}
@@ -19,8 +19,9 @@ use Rattle.table.specs.Within.{exceeds, promiseWithin, doesWithin, repor
 use Rattle.table.proofs.Laws.Refusals.{either}
 use Rattle.table.proofs.Laws.Within.{exceeding, exceeded}
 use Rattle.table.proofs.Theorems.Numbers.{call-numbers}
-use Rattle.table.proofs.Theorems.Refused.{call-refused}
-use Rattle.table.proofs.Theorems.Reported.{refused-reports}
+use Rattle.table.proofs.Theorems.Refused.{call-refused, few-numbers}
+use Rattle.table.proofs.Theorems.Moves.{few-moves}
+use Rattle.table.proofs.Theorems.Reported.{refused-reports, fits-16}
 use Rattle.table.proofs.Theorems.Totals.{refused-total}
 use Rattle.table.proofs.Theorems.Home.{AtHome, stays-home}
 use Rattle.table.proofs.Theorems.AlwaysHome.{Homes}
@@ -113,7 +114,7 @@ module _ (a b : ℕ) (k : Kind) (call : Call) (t : Tray) (larger : a ≤ b) (eno
       let tight = plain-beside a k call t (doesWithin a k call t) refl enough in
       (wide .0 ∙ sym (tight .0), λ n. wide .1 n ∙ sym (tight .1 n))
 
--- A REFUSAL, with whatever number, changes nothing, reports no slot and leaves the total.
+-- A REFUSAL, with whatever number, changes nothing, reports no slot and leaves the total. And the numbers, the moves and the slot are as small as a plain call's.
 module _ (a : ℕ) (k : Kind) (call : Call) (t : Tray) where
   pub within-refused : (o : Outcome) → o ≡ doesWithin a k call t → (m : ℕ) → o .number ≡ suc m → (o .tray ≡ t) × (reportedWithin a k call t ≡ noSlot)
       × ((n : ℕ) → n < 2 ^ 64 → totalWithin a k call t n ≡ n)
@@ -130,6 +131,19 @@ module _ (a : ℕ) (k : Kind) (call : Call) (t : Tray) where
         λ n small. beside .1 n ∙ sym (refused-total k call t o m n is e small),
       ))
       (same? (o .number) 12)
+
+  pub few-numbers-within : doesWithin a k call t .number < 16
+  few-numbers-within = each-way (λ (o : Outcome). o .number < 16) a k call t (λ more. omega arith) (λ less. few-numbers k call t)
+
+  pub few-moves-within : has call k ≡ true → doesWithin a k call t .moves < 4096
+  few-moves-within of = each-way (λ (o : Outcome). o .moves < 4096) a k call t (λ more. omega arith) (λ less. few-moves k call t of)
+
+  pub fits-16-within : reportedWithin a k call t < 65536
+  fits-16-within =
+      ⊎-elim
+      (λ (is : doesWithin a k call t .number ≡ 12). omega (arith, twelve-beside a k call t (doesWithin a k call t) refl is .0))
+      (λ (other : doesWithin a k call t .number ≡ 12 → ⊥). omega (arith, plain-beside a k call t (doesWithin a k call t) refl other .0, fits-16 k call t (does k call t) refl))
+      (same? (doesWithin a k call t .number) 12)
 
 -- AN EMPTY RING'S HEAD is left at 0, as by the plain call (request 03).
 pub within-homes : (a : ℕ) (call : Call) → Homes (promiseWithin a call)

@@ -26,6 +26,11 @@ impl Dice {
         if self.below(4) == 0 { u64::MAX - self.below(9) as u64 } else { self.below(1 << 40) as u64 }
     }
 
+    // Mostly about what a call on few slots moves.
+    fn allowance(&mut self) -> usize {
+        if self.below(8) == 0 { usize::MAX >> self.below(64) } else { self.below(4) }
+    }
+
     fn capacity(&mut self) -> usize {
         if self.below(200) == 0 { MOST + self.below(2) } else { self.below(10) }
     }
@@ -88,6 +93,7 @@ struct Given {
     part: Vec<u32>,
     i: usize,
     x: u32,
+    allowance: usize,
 }
 
 impl Given {
@@ -100,13 +106,14 @@ impl Given {
         let near = first.len.min(MOST) + 2;
         let (front, back, i) = (dice.below(near), dice.below(near), dice.below(near));
         let part = (0..dice.below(6)).map(|_| dice.entry()).collect();
-        Given { first, second, cursor: [front, back], part, i, x: dice.entry() }
+        Given { first, second, cursor: [front, back], part, i, x: dice.entry(), allowance: dice.allowance() }
     }
 }
 
-const NAMES: [&str; 23] = [
+const RINGS: usize = 16; // so many are on a ring, the others on a vector
+const NAMES: [&str; 25] = [
     "push_back", "push_front", "pop_back", "pop_front", "read", "insert", "remove", "clear", "resize", "append", "clone", "same", "same_as_vector", "step_front",
-    "vector push", "vector pop", "vector read", "vector insert", "vector remove", "vector swap_remove", "vector truncate", "vector extend_from_slice", "vector equal",
+    "insert_within", "remove_within", "vector push", "vector pop", "vector read", "vector insert", "vector remove", "vector swap_remove", "vector truncate", "vector extend_from_slice", "vector equal",
 ];
 
 fn by_hand_ring(call: usize, g: &mut Given) -> Answer {
@@ -126,7 +133,9 @@ fn by_hand_ring(call: usize, g: &mut Given) -> Answer {
         10 => r.clone_to(&mut t),
         11 => r.same(&t),
         12 => r.same_as_vector(&Vector { slots: t.slots, len: t.len, total: t.total }),
-        _ => r.step_front(&mut cursor),
+        13 => r.step_front(&mut cursor),
+        14 => r.insert_within(g.i, g.x, g.allowance),
+        _ => r.remove_within(g.i, g.allowance),
     };
     let (first, second) = ([r.head as u64, r.len as u64, r.total], [t.head as u64, t.len as u64, t.total]);
     g.first.keep(&first);
@@ -138,14 +147,14 @@ fn by_hand_ring(call: usize, g: &mut Given) -> Answer {
 fn by_hand_vector(call: usize, g: &mut Given) -> Answer {
     let (mut v, t) = (g.first.vector(), g.second.vector());
     let answer = match call {
-        14 => v.push(g.x),
-        15 => v.pop(),
-        16 => v.read(g.i),
-        17 => v.insert(g.i, g.x),
-        18 => v.remove(g.i),
-        19 => v.swap_remove(g.i),
-        20 => v.truncate(g.i),
-        21 => v.extend_from_slice(&g.part),
+        16 => v.push(g.x),
+        17 => v.pop(),
+        18 => v.read(g.i),
+        19 => v.insert(g.i, g.x),
+        20 => v.remove(g.i),
+        21 => v.swap_remove(g.i),
+        22 => v.truncate(g.i),
+        23 => v.extend_from_slice(&g.part),
         _ => v.equal(&t),
     };
     let state = [v.len as u64, v.total];
@@ -171,7 +180,9 @@ fn ours_ring(call: usize, g: &mut Given) -> Word {
             10 => tum_ring_clone(slots, cap, &r, theirs, room, &mut t),
             11 => tum_ring_same(slots, cap, &r, theirs, room, &t),
             12 => tum_ring_same_as_vector(slots, cap, &r, theirs, room, &v),
-            _ => tum_ring_step_front(slots, cap, &r, &mut g.cursor),
+            13 => tum_ring_step_front(slots, cap, &r, &mut g.cursor),
+            14 => tum_ring_insert_within(slots, cap, &mut r, g.i, g.x, g.allowance),
+            _ => tum_ring_remove_within(slots, cap, &mut r, g.i, g.allowance),
         }
     };
     g.first.keep(&r);
@@ -184,14 +195,14 @@ fn ours_vector(call: usize, g: &mut Given) -> Word {
     let (slots, cap) = (g.first.slots.as_mut_ptr(), g.first.slots.len());
     let answer = unsafe {
         match call {
-            14 => tum_vector_push(slots, cap, &mut v, g.x),
-            15 => tum_vector_pop(slots, cap, &mut v),
-            16 => tum_vector_read(slots, cap, &v, g.i),
-            17 => tum_vector_insert(slots, cap, &mut v, g.i, g.x),
-            18 => tum_vector_remove(slots, cap, &mut v, g.i),
-            19 => tum_vector_swap_remove(slots, cap, &mut v, g.i),
-            20 => tum_vector_truncate(slots, cap, &mut v, g.i),
-            21 => tum_vector_extend_from_slice(slots, cap, &mut v, g.part.as_ptr(), g.part.len()),
+            16 => tum_vector_push(slots, cap, &mut v, g.x),
+            17 => tum_vector_pop(slots, cap, &mut v),
+            18 => tum_vector_read(slots, cap, &v, g.i),
+            19 => tum_vector_insert(slots, cap, &mut v, g.i, g.x),
+            20 => tum_vector_remove(slots, cap, &mut v, g.i),
+            21 => tum_vector_swap_remove(slots, cap, &mut v, g.i),
+            22 => tum_vector_truncate(slots, cap, &mut v, g.i),
+            23 => tum_vector_extend_from_slice(slots, cap, &mut v, g.part.as_ptr(), g.part.len()),
             _ => tum_vector_equal(slots, cap, &v, g.second.slots.as_ptr(), g.second.slots.len(), &t),
         }
     };
@@ -207,7 +218,7 @@ pub fn agree() -> (usize, usize) {
         let call = k % NAMES.len();
         let given = Given::new(&mut dice);
         let (mut one, mut other) = (given.clone(), given.clone());
-        let (word, a) = if call < 14 {
+        let (word, a) = if call < RINGS {
             (ours_ring(call, &mut one), by_hand_ring(call, &mut other))
         } else {
             (ours_vector(call, &mut one), by_hand_vector(call, &mut other))

@@ -79,7 +79,7 @@ impl Found {
     }
 
     pub fn short(&self) -> Vec<String> {
-        let mut found = vec![(if self.has_hand() { "Rust's" } else { "the other vector" }, over(self.to_theirs(), self.row.most), self.row.why)];
+        let mut found = vec![(self.row.beside, over(self.to_theirs(), self.row.most), self.row.why)];
         if self.has_hand() {
             found.push(("by hand", over(self.to_hand(), [LEVEL; 3]), self.row.by_hand));
         }

@@ -106,6 +106,16 @@ impl<const C: usize, const WHICH: usize> work::Ring for Ring<C, WHICH> {
     }
 
     #[inline(always)]
+    fn insert_within(self, i: usize, x: u32, allowance: usize) -> u64 {
+        done(ring::<WHICH>().insert_within(i, x, allowance))
+    }
+
+    #[inline(always)]
+    fn remove_within(self, i: usize, allowance: usize) -> Option<u32> {
+        entry(ring::<WHICH>().remove_within(i, allowance))
+    }
+
+    #[inline(always)]
     fn clear(self) -> u64 {
         done(ring::<WHICH>().clear())
     }

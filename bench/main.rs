@@ -1,6 +1,7 @@
 // Measures the proved calls against Rust's own containers and against the same rules by hand, side by side in one run: each round times a batch on one
 // side and then the same batch on the next, and the rows are gone through several times. Then records, against other readers of them. Prints the ratios
-// and writes them, with what falls short and why, to a file. With BENCH_ONLY=records the containers are left out, and nothing is written.
+// and writes them, with what falls short and why, to a file. BENCH_ONLY=records measures records alone, BENCH_ONLY=allowances the calls with an allowance
+// beside the plain ones alone; either writes nothing.
 #[cfg(arrayvec)]
 mod array;
 mod check;
@@ -93,22 +94,24 @@ fn paper(rounds: usize, measured: &[(&str, &str)]) -> String {
 fn main() {
     let args: Vec<String> = std::env::args().collect();
     let rounds: usize = args.get(1).and_then(|a| a.parse().ok()).unwrap_or(201);
-    if std::env::var("BENCH_ONLY").is_ok_and(|only| only == "records") {
-        println!("{}", records::table(rounds));
-        return;
+    match std::env::var("BENCH_ONLY").as_deref() {
+        Ok("records") => return println!("{}", records::table(rounds)),
+        Ok("allowances") => return println!("{}", lines(&rows_of(rows::allowances(), rounds), |f| vec![f.line()])),
+        _ => {}
     }
     let (done, refused) = check::agree();
     println!("by hand and ours agree in {done} random calls that were done and {refused} that were refused");
-    let (containers, vectors) = (rows_of(rows::containers(), rounds), rows_of(rows::vectors(), rounds));
+    let [containers, allowances, vectors] = [rows::containers(), rows::allowances(), rows::vectors()].map(|rows| rows_of(rows, rounds));
     let table = lines(&containers, |f| vec![f.line()]);
     let limits = lines(&containers, |f| f.limit().into_iter().collect());
+    let within = lines(&allowances, |f| vec![f.line()]);
     let others = lines(&vectors, |f| vec![f.line()]);
-    let short = lines(&containers, Found::short) + "\n" + &lines(&vectors, Found::short);
-    println!("{table}\n\n{limits}\n\n{others}\n");
+    let short: Vec<String> = [&containers, &allowances, &vectors].into_iter().flatten().flat_map(Found::short).collect();
+    println!("{table}\n\n{limits}\n\n{within}\n\n{others}\n");
     let records = records::table(rounds);
     println!("{records}");
     let Some(file) = args.get(2) else { return };
     let (checked, refused) = ((done + refused).to_string(), refused.to_string());
-    let measured = [("{table}", &*table), ("{limits}", &*limits), ("{others}", &*others), ("{short}", short.trim()), ("{records}", &*records), ("{checked}", &*checked), ("{refused}", &*refused)];
+    let measured = [("{table}", &*table), ("{limits}", &*limits), ("{allowances}", &*within), ("{others}", &*others), ("{short}", &*short.join("\n")), ("{records}", &*records), ("{checked}", &*checked), ("{refused}", &*refused)];
     std::fs::write(file, paper(rounds, &measured)).expect("the paper cannot be written");
 }

@@ -15,6 +15,8 @@ extern "C" {
     pub fn tum_ring_read(slots: *const u32, cap: usize, state: *const RingState, i: usize) -> Word;
     pub fn tum_ring_insert(slots: *mut u32, cap: usize, state: *mut RingState, i: usize, x: u32) -> Word;
     pub fn tum_ring_remove(slots: *mut u32, cap: usize, state: *mut RingState, i: usize) -> Word;
+    pub fn tum_ring_insert_within(slots: *mut u32, cap: usize, state: *mut RingState, i: usize, x: u32, allowance: usize) -> Word;
+    pub fn tum_ring_remove_within(slots: *mut u32, cap: usize, state: *mut RingState, i: usize, allowance: usize) -> Word;
     pub fn tum_ring_clear(slots: *mut u32, cap: usize, state: *mut RingState) -> Word;
     pub fn tum_ring_resize(slots: *mut u32, cap: usize, state: *mut RingState, k: usize, x: u32) -> Word;
     pub fn tum_ring_append(slots: *mut u32, cap: usize, state: *mut RingState, theirs: *mut u32, room: usize, other: *mut RingState) -> Word;
@@ -132,6 +134,16 @@ impl<const C: usize, const WHICH: usize> work::Ring for Ring<C, WHICH> {
     #[inline(always)]
     fn remove(self, i: usize) -> Option<u32> {
         entry(of_ring!(tum_ring_remove, i))
+    }
+
+    #[inline(always)]
+    fn insert_within(self, i: usize, x: u32, allowance: usize) -> u64 {
+        done(of_ring!(tum_ring_insert_within, i, x, allowance))
+    }
+
+    #[inline(always)]
+    fn remove_within(self, i: usize, allowance: usize) -> Option<u32> {
+        entry(of_ring!(tum_ring_remove_within, i, allowance))
     }
 
     #[inline(always)]

@@ -11,22 +11,25 @@ pub type Side = Box<dyn FnMut(usize) -> Came>;
 
 pub struct Row {
     pub name: &'static str,
-    pub most: [f64; 3], // the ratio to Rust's to reach at each capacity
+    pub beside: &'static str, // whose the second side is
+    pub most: [f64; 3], // the ratio to the second side to reach at each capacity
     pub why: &'static str, // what keeps it above that, where it is
     pub by_hand: &'static str, // what keeps it above the ratio to the same rules by hand
-    pub sides: [fn() -> Vec<Side>; 3], // at each capacity: ours, Rust's or that of another vector, and beside Rust's by hand
+    pub sides: [fn() -> Vec<Side>; 3], // at each capacity: ours, that of `beside`, and beside Rust's by hand
     pub demanded: Option<fn(usize) -> Side>, // of so many entries, what the rules demand and Rust doesn't do
 }
 
 pub const MOST: [f64; 3] = [1.1; 3];
 pub const MOST_SAME: [f64; 3] = [f64::INFINITY, 1.2, 1.2]; // of a comparison: none is set at 16
+pub const MOST_WITHIN: [f64; 3] = [1.03; 3]; // of a call with an allowance, beside the plain one
 pub const MOST_TOTAL: [f64; 3] = [0.75, 0.1, 0.01]; // of a total, which Rust's containers do not keep
 
 // The same work on each side, at each capacity, on a container that is three quarters full.
 macro_rules! row {
-    ($name:literal, [$($side:ident),+], $most:ident, $why:expr, $by_hand:expr, $demanded:expr, $work:tt) => {
+    ($name:literal, $beside:literal, [$($side:ident),+], $most:ident, $why:expr, $by_hand:expr, $demanded:expr, $work:tt) => {
         Row {
             name: $name,
+            beside: $beside,
             most: $most,
             why: $why,
             by_hand: $by_hand,
@@ -39,10 +42,10 @@ macro_rules! row {
 // Beside Rust's containers and by hand.
 macro_rules! both {
     ($name:literal, $most:ident, $why:expr, $by_hand:expr, $work:tt) => {
-        row!($name, [ours, theirs, hand], $most, $why, $by_hand, None, $work)
+        row!($name, "Rust's", [ours, theirs, hand], $most, $why, $by_hand, None, $work)
     };
     ($name:literal, $most:ident, $why:expr, $by_hand:expr, $demanded:expr, $work:tt) => {
-        row!($name, [ours, theirs, hand], $most, $why, $by_hand, Some($demanded), $work)
+        row!($name, "Rust's", [ours, theirs, hand], $most, $why, $by_hand, Some($demanded), $work)
     };
 }
 
@@ -50,7 +53,26 @@ macro_rules! both {
 #[cfg(any(arrayvec, tinyvec))]
 macro_rules! beside {
     ($name:literal, $side:ident, $why:expr, $work:tt) => {
-        row!($name, [ours, $side], MOST, $why, "", None, $work)
+        row!($name, "the other vector", [ours, $side], MOST, $why, "", None, $work)
+    };
+}
+
+// Ours beside the plain call of ours, which stands on slots of its own.
+macro_rules! beside_plain {
+    ($name:literal, $why:expr, $work:tt, $plain:tt) => {
+        Row {
+            name: $name,
+            beside: "the plain calls",
+            most: MOST_WITHIN,
+            why: $why,
+            by_hand: "",
+            sides: [
+                || vec![side!(ours, 16, $work), side!(ours, 16, $plain)],
+                || vec![side!(ours, 256, $work), side!(ours, 256, $plain)],
+                || vec![side!(ours, 4096, $work), side!(ours, 4096, $plain)],
+            ],
+            demanded: None,
+        }
     };
 }
 
@@ -68,6 +90,8 @@ const TEST: &str = "the one test before the work, which asks of a state what Rus
 const READ: &str = "the one test before the work, which asks of a state what Rust's type has settled: one to three comparisons more; and the slot, which is put into the word beside the entry: a shift and an `or` (request 10)";
 const ENDS: &str = "the one test before the work, which asks of a state what Rust's type has settled: two comparisons more in each call, and two more in a push, which asks an empty ring for its head (request 03); the freed slot, which paper 01 has set to 0 and Rust leaves as it was; and the total, one word more of the state that is loaded, changed and stored back in each call (request 04)";
 const INSIDE: &str = "the one test before the work, which asks of a state what Rust's type has settled: one to three comparisons more; and the total, one number more that is loaded, changed and stored back in each call (request 04)";
+const INSIDE_WITHIN: &str = "what keeps insert + remove above it; and the test of the allowance, which Rust's has not (request 11)";
+const WITHIN: &str = "the test of the allowance, which asks of both sides of the place whether they are longer: the length is loaded, and three comparisons are joined to one branch, before the plain call's own code (request 11)";
 const REFILL: &str = "paper 01 has every freed slot hold 0, and what clear takes out is added up (request 04): a pass over each run of slots, where Rust touches none; at 256 also where the loop of resize lies in its function; at 16 the tests of two calls";
 const APPEND: &str = "the slots that T frees are set to 0, as paper 01 has it, and what goes over is added up (request 04): a pass over each run, where Rust touches none";
 const CLONE: &str = "the test of two states; and what is put in is added up on the way (request 04): a loop of 16-byte registers for each run of slots, where Rust's copy is a memmove";
@@ -110,6 +134,7 @@ pub fn containers() -> Vec<Row> {
         both!("push_front + pop_back", MOST, ENDS, HAND, (Ring, [0], wrapped, |r, n, spots, k| ring_queue_back(r, k))),
         both!("read", MOST, READ, HAND, (Ring, [0], wrapped, |r, n, spots, k| ring_read(r, n, &spots, k))),
         both!("insert + remove", MOST, INSIDE, HAND, (Ring, [0], wrapped, |r, n, spots, k| ring_shift(r, n, &spots, k))),
+        both!("insert_within + remove_within", MOST, INSIDE_WITHIN, HAND, (Ring, [0], wrapped, |r, n, spots, k| ring_shift_within(r, n, &spots, k))),
         both!("clear + resize", MOST, REFILL, HAND, |n| demanded(n, 0, 1), (Ring, [0], wrapped, |r, n, spots, k| ring_refill(r, n, k))),
         both!("append", MOST, APPEND, HAND, |n| demanded(n, 0, 2), (Rings, [], paired, |p, n, spots, k| pair_append(p, k))),
         both!("clone", MOST, CLONE, HAND, |n| demanded(n, 1, 0), (Rings, [], paired, |p, n, spots, k| pair_clone(p, k))),
@@ -127,6 +152,16 @@ pub fn containers() -> Vec<Row> {
         both!("vector extend + truncate", MOST, CUT, HAND, |n| demanded(n / 3, 1, 1), (Vector, [], counted, |v, n, spots, k| vector_extend_truncate(v, n, &LENT.slots[..n / 3], k))),
         both!("vector total", MOST_TOTAL, TOTAL, HAND, (Vector, [], counted, |v, n, spots, k| vector_total(v, k))),
     ]
+}
+
+// With an allowance that is always enough, beside the plain calls at the same positions.
+pub fn allowances() -> Vec<Row> {
+    vec![beside_plain!(
+        "insert_within + remove_within",
+        WITHIN,
+        (Ring, [0], wrapped, |r, n, spots, k| ring_shift_within(r, n, &spots, k)),
+        (Ring, [1], wrapped, |r, n, spots, k| ring_shift(r, n, &spots, k))
+    )]
 }
 
 // Beside the vectors of other crates.

@@ -53,6 +53,15 @@ pub trait Ring: Copy {
     fn read(self, i: usize) -> Option<u32>;
     fn insert(self, i: usize, x: u32) -> u64;
     fn remove(self, i: usize) -> Option<u32>;
+    // Rust's has no allowance: the plain call.
+    #[inline(always)]
+    fn insert_within(self, i: usize, x: u32, _allowance: usize) -> u64 {
+        self.insert(i, x)
+    }
+    #[inline(always)]
+    fn remove_within(self, i: usize, _allowance: usize) -> Option<u32> {
+        self.remove(i)
+    }
     fn clear(self) -> u64;
     fn resize(self, k: usize, x: u32) -> u64;
     type Cursor;
@@ -163,6 +172,17 @@ pub fn ring_shift<R: Ring>(r: R, n: usize, spots: &Spots, rounds: usize) -> Came
     for k in 0..rounds {
         came.did(r.insert(spots.below(k, n + 1), k as u32));
         came.got(r.remove(spots.below(k + 7, n + 1)));
+    }
+    came
+}
+
+// The same positions, with an allowance that is always enough: half of one less than the capacity.
+pub fn ring_shift_within<R: Ring>(r: R, n: usize, spots: &Spots, rounds: usize) -> Came {
+    let allowance = (n / 3 * 4 - 1) / 2; // n is three quarters of the capacity
+    let mut came = Came::default();
+    for k in 0..rounds {
+        came.did(r.insert_within(spots.below(k, n + 1), k as u32, allowance));
+        came.got(r.remove_within(spots.below(k + 7, n + 1), allowance));
     }
     came
 }

@@ -4,7 +4,7 @@
 
 #include <stdio.h>
 
-enum { TRAY = 4, PICKS = 6 };
+enum { TRAY = 4, PICKS = 6, TICK = 1 /* plate moves that the stage has time for in a tick */ };
 
 static uint32_t tray[TRAY], picked[PICKS]; /* the slots, which stay where they are as long as the lists are used */
 static tum_ring worklist;
@@ -20,6 +20,7 @@ static const char *name_of(uint8_t number)
     case TUM_EMPTY: return "TUM_EMPTY";
     case TUM_NOT_EMPTY: return "TUM_NOT_EMPTY";
     case TUM_FULL: return "TUM_FULL";
+    case TUM_OVER_ALLOWANCE: return "TUM_OVER_ALLOWANCE";
     default: return "another number";
     }
 }
@@ -27,7 +28,7 @@ static const char *name_of(uint8_t number)
 /* What the operator sees: the answer, the lamp at the slot that it reports, and the total. */
 static void show(const char *call, tum_answer a, uint64_t total)
 {
-    printf("%-15s%-16s%6lu%6u", call, name_of(a.number), (unsigned long)a.value, (unsigned)a.moves);
+    printf("%-20s%-18s%6lu%6u", call, name_of(a.number), (unsigned long)a.value, (unsigned)a.moves);
     if (a.slot == TUM_NO_SLOT)
         printf("     -");
     else
@@ -43,7 +44,7 @@ static void show_picks(const char *call, tum_answer a) { show(call, a, tumvec_to
 static void fill_worklist(void)
 {
     tum_answer a;
-    puts("the worklist   answer           value moves  lamp  total");
+    puts("the worklist        answer             value moves  lamp  total");
     show_worklist("new", tumring_new(&worklist, tray, TRAY));
     show_worklist("push_back 250", tumring_push_back(&worklist, 250));
     show_worklist("push_back 100", tumring_push_back(&worklist, 100));
@@ -63,7 +64,7 @@ static void pick(void)
     tum_cursor cursor;
     show_worklist("iter", tumring_iter(&worklist, &cursor));
     show_worklist("step_front", tumring_step_front(&worklist, &cursor));
-    puts("\nthe pick list  answer           value moves  lamp  total");
+    puts("\nthe pick list       answer             value moves  lamp  total");
     show_picks("new", tumvec_new(&picks, picked, PICKS));
     show_picks("from_iter", tumring_from_iter(&worklist, &cursor, &picks));
     show_picks("push 25", tumvec_push(&picks, 25));
@@ -88,6 +89,28 @@ static void print_stored(const char *what, tum_answer a)
     fwrite(text, 1, a.value, stdout);
 }
 
+/* A tick's calls share its moves. One that is over what is left changed nothing, and is made again in the next tick; at an end of the list nothing
+   moves, so there is always time for that. */
+static void work_in_ticks(void)
+{
+    size_t left = TICK;
+    tum_answer a;
+    puts("\nthis tick           answer             value moves  lamp  total");
+    a = tumring_remove_within(&worklist, 1, left);
+    show_worklist("remove_within 1", a);
+    left -= a.moves;
+    a = tumring_insert_within(&worklist, 1, 80, left);
+    show_worklist("insert_within 1, 80", a);
+    if (a.number == TUM_OVER_ALLOWANCE) {
+        left = TICK;
+        puts("\nthe next tick       answer             value moves  lamp  total");
+        a = tumring_insert_within(&worklist, 1, 80, left);
+        show_worklist("insert_within 1, 80", a);
+        left -= a.moves;
+    }
+    show_worklist("remove_within 0", tumring_remove_within(&worklist, 0, left));
+}
+
 int main(void)
 {
     fill_worklist();
@@ -97,5 +120,6 @@ int main(void)
     puts("");
     print_stored("the worklist", tumring_text(&worklist, text, sizeof text));
     print_stored("the pick list", tumvec_text(&picks, text, sizeof text));
+    work_in_ticks();
     return 0;
 }

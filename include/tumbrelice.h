@@ -38,7 +38,8 @@ enum {
     TUM_FULL = 6,           /* no room: too few free slots, or bytes */
     TUM_STRAY_BYTE = 9,     /* no record: outside quotes stands a byte that may not stand there */
     TUM_OPEN_QUOTE = 10,    /* no record: a quote is never closed */
-    TUM_LONG_TEXT = 11      /* a text of more than 65,535 bytes */
+    TUM_LONG_TEXT = 11,     /* a text of more than 65,535 bytes */
+    TUM_OVER_ALLOWANCE = 12 /* it would be done, but with more moves than the allowance */
 };
 
 enum {
@@ -100,6 +101,8 @@ uint64_t tum_ring_pop_back(uint32_t *slots, size_t count, uint64_t state[3]);
 uint64_t tum_ring_pop_front(uint32_t *slots, size_t count, uint64_t state[3]);
 uint64_t tum_ring_insert(uint32_t *slots, size_t count, uint64_t state[3], size_t i, uint32_t x);
 uint64_t tum_ring_remove(uint32_t *slots, size_t count, uint64_t state[3], size_t i);
+uint64_t tum_ring_insert_within(uint32_t *slots, size_t count, uint64_t state[3], size_t i, uint32_t x, size_t allowance);
+uint64_t tum_ring_remove_within(uint32_t *slots, size_t count, uint64_t state[3], size_t i, size_t allowance);
 uint64_t tum_ring_truncate(uint32_t *slots, size_t count, uint64_t state[3], size_t k);
 uint64_t tum_ring_resize(uint32_t *slots, size_t count, uint64_t state[3], size_t k, uint32_t x);
 uint64_t tum_ring_clear(uint32_t *slots, size_t count, uint64_t state[3]);
@@ -285,6 +288,18 @@ static inline tum_answer tumring_insert(tum_ring *ring, size_t i, uint32_t x)
 static inline tum_answer tumring_remove(tum_ring *ring, size_t i)
 {
     return tum_answer_of(tum_ring_remove(ring->slots, ring->capacity, ring->state, i));
+}
+
+/* tumring_insert with at most so many moves. Refused: as tumring_insert; TUM_OVER_ALLOWANCE if the shorter side is longer than the allowance. */
+static inline tum_answer tumring_insert_within(tum_ring *ring, size_t i, uint32_t x, size_t allowance)
+{
+    return tum_answer_of(tum_ring_insert_within(ring->slots, ring->capacity, ring->state, i, x, allowance));
+}
+
+/* tumring_remove with at most so many moves. Refused: as tumring_remove; TUM_OVER_ALLOWANCE if the shorter side is longer than the allowance. */
+static inline tum_answer tumring_remove_within(tum_ring *ring, size_t i, size_t allowance)
+{
+    return tum_answer_of(tum_ring_remove_within(ring->slots, ring->capacity, ring->state, i, allowance));
 }
 
 /* [..k]; where k >= n the list stays. Refused: no more than every call. */

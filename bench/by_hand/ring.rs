@@ -222,6 +222,23 @@ impl<'a> Ring<'a> {
         Answer::at(at, x, i.min(after))
     }
 
+    // 12 where the plain call would be done, with more moves than allowed.
+    #[inline(never)]
+    pub fn insert_within(&mut self, i: usize, x: u32, allowance: usize) -> Answer {
+        if self.is_valid() && i <= self.len && self.len < self.slots.len() && i.min(self.len - i) > allowance {
+            return Answer::refused(12);
+        }
+        self.insert(i, x)
+    }
+
+    #[inline(never)]
+    pub fn remove_within(&mut self, i: usize, allowance: usize) -> Answer {
+        if self.is_valid() && i < self.len && i.min(self.len - 1 - i) > allowance {
+            return Answer::refused(12);
+        }
+        self.remove(i)
+    }
+
     #[inline(never)]
     pub fn clear(&mut self) -> Answer {
         if !self.is_valid() {

@@ -107,6 +107,8 @@ void names(void)
     MUST(tumring_same(&r, &t).number == TUM_INVALID_SECOND);
     MUST(tumring_same(&t, &r).number == TUM_INVALID);
     MUST(tumring_new(&r, first.slots, TUM_MOST_SLOTS).number == TUM_DONE);
+    MUST(tumring_resize(&r, 2, 5).number == TUM_DONE);
+    MUST(tumring_insert_within(&r, 1, 6, 0).number == TUM_OVER_ALLOWANCE);
     MUST(tumring_new(&r, first.slots, TUM_MOST_SLOTS + 1).number == TUM_INVALID);
     MUST(tumrecord_judge((const uint8_t *)"a\"", 2).number == TUM_STRAY_BYTE);
     MUST(tumrecord_judge((const uint8_t *)"a,\"", 3).number == TUM_OPEN_QUOTE);

@@ -185,6 +185,12 @@ static tum_answer walk_vector(unsigned code, const tum_vector *v, size_t k)
     return did;
 }
 
+/* The allowance is the cursor's front, as replay has it. */
+static tum_answer call_within(unsigned code, tum_ring *r, size_t a, uint32_t x)
+{
+    return code == 0x90 ? tumring_insert_within(r, a, x, cursor.at[0]) : tumring_remove_within(r, a, cursor.at[0]);
+}
+
 tum_answer call(unsigned code, size_t a, size_t b)
 {
     tum_ring r = ring_of(&first);
@@ -202,6 +208,7 @@ tum_answer call(unsigned code, size_t a, size_t b)
     case 5: did = call_vectors(code, &v, a); break;
     case 6: as_ring = 1, did = walk_ring(code, &r, a); break;
     case 7: did = walk_vector(code, &v, a); break;
+    case 9: as_ring = 1, did = call_within(code, &r, a, (uint32_t)(b & UINT32_MAX)); break;
     default: as_ring = code == 0x80, did = as_ring ? tumring_text(&r, text, a) : tumvec_text(&v, text, a); break;
     }
     if (as_ring)

@@ -12,10 +12,10 @@
 #include <stdlib.h>
 #include <string.h>
 
-enum { LARGE = 250 /* one call in so many is made on a large desk of its own, each kind in turn */, ON_RECORD = 20 /* one text in so many calls */ };
+enum { LARGE = 240 /* one call in so many is made on a large desk of its own, each kind in turn */, ON_RECORD = 20 /* one text in so many calls */ };
 
 /* The numbers of a call: a position, one from the cursor on, a number of slots, an entry, two of these, a range, how many of the second's slots, or
-   how many bytes. */
+   how many bytes. The allowance of 90 and 91 stands in the cursor. */
 typedef enum needs { NOTHING, POSITION, AHEAD, COUNT, ENTRY, POSITION_ENTRY, COUNT_ENTRY, RANGE, SLICE, BYTES } needs;
 
 typedef struct kind {
@@ -44,9 +44,11 @@ static const kind kinds[] = {
     {0x65, "tumring_peek_back", AHEAD}, {0x66, "tumring_from_iter", NOTHING}, {0x70, "tumvec_iter", NOTHING}, {0x71, "tumvec_into_iter", NOTHING},
     {0x72, "tumvec_step_front", NOTHING}, {0x73, "tumvec_step_back", NOTHING}, {0x74, "tumvec_peek_front", AHEAD},
     {0x75, "tumvec_peek_back", AHEAD}, {0x76, "tumvec_from_iter", NOTHING}, {0x80, "tumring_text", BYTES}, {0x81, "tumvec_text", BYTES},
+    {0x90, "tumring_insert_within", POSITION_ENTRY}, {0x91, "tumring_remove_within", POSITION},
 };
 enum { KINDS = sizeof kinds / sizeof kinds[0] };
 static unsigned long met[KINDS][2]; /* done, refused */
+static unsigned long within[2][16]; /* of 90 and 91, each number */
 
 static int comparing;
 static char ours[120000], theirs[sizeof ours];
@@ -90,7 +92,7 @@ static void put_all(unsigned code, size_t a, tum_answer did)
     put_slots(first.slots, first.capacity);
     put_slots(second.slots, second.capacity);
     put_slots(lent, lent_count);
-    if (code >= 0x80) {
+    if (code == 0x80 || code == 0x81) {
         memcpy(ours + ours_size, text, a);
         ours[ours_size + a] = '\n';
         ours_size += a + 1;
@@ -160,6 +162,15 @@ static uint64_t some_bytes(void)
     }
 }
 
+/* About what the plain call would move, where it would be done, or any. replay takes it from the cursor's front. */
+static void place_allowance(unsigned code, uint64_t i)
+{
+    uint64_t rest = code == 0x90 ? first.length : first.length - 1, after = rest - i, moves = i < after ? i : after;
+    uint64_t near[] = {0, 1, moves - 1, moves - 1, moves, moves + 1, first.length / 2, wide(), below(first.capacity + 1)};
+    cursor.at[0] = (size_t)near[below(sizeof near / sizeof near[0])];
+    line(7, cursor.at[0], cursor.at[1]);
+}
+
 static void make(size_t which)
 {
     const kind of = kinds[which];
@@ -178,13 +189,17 @@ static void make(size_t which)
     case SLICE: a = below(second.capacity + 1); break;
     case BYTES: a = some_bytes(); break;
     }
+    if (of.code >= 0x90)
+        place_allowance(of.code, a);
     line(of.code, a, b);
     did = call(of.code, (size_t)a, (size_t)b);
     number = of.code >= 0x38 && of.code <= 0x3d ? lent_number : did.number;
     met[which][number != TUM_DONE]++;
+    if (of.code >= 0x90)
+        within[of.code - 0x90][number]++;
     look_behind(&first);
     look_behind(&second);
-    if (of.code >= 0x80 && (text[a] != '-' || text[a + 1] != '-'))
+    if (of.needs == BYTES && (text[a] != '-' || text[a + 1] != '-'))
         fail("a byte behind those that were lent is changed");
     if (comparing) {
         put_all(of.code, (size_t)a, did);
@@ -229,14 +244,37 @@ static int never(const char *name, const unsigned long *times, size_t column)
     return 1;
 }
 
+/* Whether a call with an allowance was never answered one of its numbers, those of the plain call or 12. */
+static int never_within(const char *name, const unsigned long *times, const uint8_t *numbers, size_t count)
+{
+    size_t k;
+    int wrong = 0;
+    printf("%s's answers:", name);
+    for (k = 0; k < count; k++) {
+        printf("%s %u in %lu", k == 0 ? "" : ",", (unsigned)numbers[k], times[numbers[k]]);
+        if (times[numbers[k]] == 0) {
+            fprintf(stderr, "oracle/calls: %s was never answered %u\n", name, (unsigned)numbers[k]);
+            wrong = 1;
+        }
+    }
+    puts(" calls");
+    return wrong;
+}
+
 static int report(void)
 {
+    static const uint8_t of_insert[] = {TUM_DONE, TUM_INVALID, TUM_NO_POSITION, TUM_FULL, TUM_OVER_ALLOWANCE};
+    static const uint8_t of_remove[] = {TUM_DONE, TUM_INVALID, TUM_NO_POSITION, TUM_OVER_ALLOWANCE};
     size_t k;
     int wrong = 0;
     for (k = 0; k < KINDS; k++)
         wrong |= never(kinds[k].name, met[k], k % 3);
     for (k = 0; k < RECORD_KINDS; k++)
-        wrong |= never(record_names[k], record_met[k], k % 3);
+        wrong |= never(record_names[k], record_met[k], (KINDS + k) % 3);
+    if ((KINDS + RECORD_KINDS) % 3 != 0)
+        puts("");
+    wrong |= never_within("tumring_insert_within", within[0], of_insert, sizeof of_insert);
+    wrong |= never_within("tumring_remove_within", within[1], of_remove, sizeof of_remove);
     return wrong;
 }
 

@@ -33,9 +33,9 @@ remove-within-spec =
     (λ c κs. search needs)
     (λ c. search needs)
     (λ c. search (remove-front-done, shown-within))
-    (λ c. omega state)  -- those behind i
+    (λ c. omega state)  -- those behind i are counted
     (λ c κs. search needs)
-    (λ c. search more-within)
+    (λ c. search more-within)  -- they are too many
     (λ c κs. omega state)
     (λ c κs. omega state)
     (λ c. search needs)

@@ -8,7 +8,7 @@ use borrow.Fn.World.{ArgsD, ResD}
 use Rattle.slots.specs.Layout.{ring}
 use Rattle.table.specs.Calls.{new, withCapacity, look, len, read, reserve}
 use Rattle.table.specs.Calls.{write, push, pushFront, pop, popFront, insert, remove, truncate, resize, clear}
-use Rattle.table.specs.Within.{promiseWithin}
+use Rattle.table.specs.PromiseWithin.{promiseWithin}
 use Rattle.table.specs.World.{World, called, make, on, Ours}
 use Rattle.table.proofs.Laws.Named.{Is, ours-make, ours-on}
 use Rattle.table.proofs.Laws.Within.{ours-within}

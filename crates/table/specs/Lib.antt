@@ -6,10 +6,11 @@ pub mod Numbers
 pub mod Does
 pub mod Reported
 pub mod Totals
+pub mod Within
 pub mod Parts
 pub mod Lent
 pub mod Tested
 pub mod Ledger
 pub mod Promise
-pub mod Within
+pub mod PromiseWithin
 pub mod World

@@ -12,7 +12,8 @@ use Rattle.table.specs.Tray.{Tray, valid}
 use Rattle.table.specs.Calls.{insert, remove, push, pushFront, popFront, new}
 use Rattle.table.specs.Does.{does, made}
 use Rattle.table.specs.Reported.{noSlot}
-use Rattle.table.specs.Within.{promiseWithin, doesWithin, reportedWithin, totalWithin}
+use Rattle.table.specs.Within.{doesWithin, reportedWithin, totalWithin}
+use Rattle.table.specs.PromiseWithin.{promiseWithin}
 use Rattle.table.specs.Promise.{arrival}
 use Rattle.table.specs.World.{Event, make, on, called, AllOurs, run, lines, standingAll}
 use Rattle.table.specs.Ledger.{entered, handed, dropped}

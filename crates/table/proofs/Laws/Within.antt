@@ -11,7 +11,8 @@ use Rattle.table.specs.Calls.{Call, insert, remove, has}
 use Rattle.table.specs.Does.{Outcome, does}
 use Rattle.table.specs.Promise.{Kept}
 use Rattle.table.specs.World.{World, called, Ours}
-use Rattle.table.specs.Within.{exceeds, promiseWithin, doesWithin}
+use Rattle.table.specs.Within.{exceeds, doesWithin}
+use Rattle.table.specs.PromiseWithin.{promiseWithin}
 use Rattle.table.proofs.Laws.Refusals.{both-hold}
 use Rattle.table.proofs.Laws.Valid.{and-left, and-right}
 use Rattle.table.proofs.Laws.Done.{done-is}

@@ -17,7 +17,8 @@ use Rattle.table.specs.Table.{after, after2, begins, makes}
 use Rattle.table.specs.Does.{Outcome, refused, done, rowOf, refusalsOf, does, bare, refusalsMade, made}
 use Rattle.table.specs.Does.{Outcome2, refused2, done2, rowOf2, refusalsOf2, does2}
 use Rattle.table.specs.Promise.{Promise, Promise2, Arrival, promise, promise2, arrival, showing}
-use Rattle.table.specs.Within.{promiseWithin, doesWithin}
+use Rattle.table.specs.Within.{doesWithin}
+use Rattle.table.specs.PromiseWithin.{promiseWithin}
 use Rattle.table.specs.World.{Container, World, at, Event, arrived, called, calledTwo, Ours, step, AllOurs, run}
 use Rattle.table.proofs.Laws.Refusals.{either}
 use Rattle.table.proofs.Theorems.Within.{each-way}

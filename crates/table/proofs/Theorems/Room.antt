@@ -13,7 +13,8 @@ use Rattle.table.specs.Calls.{Call, insert, remove}
 use Rattle.table.specs.Does.{Outcome, refusalsOf, does}
 use Rattle.table.specs.Promise.{Promise, Arrival, promise}
 use Rattle.table.specs.World.{World, at, Event, arrived, called, Ours, step, AllOurs}
-use Rattle.table.specs.Within.{doesWithin, promiseWithin}
+use Rattle.table.specs.Within.{doesWithin}
+use Rattle.table.specs.PromiseWithin.{promiseWithin}
 use Rattle.table.proofs.Laws.Refusals.{Clear, passed-tests}
 use Rattle.table.proofs.Laws.Valid.{fit}
 use Rattle.table.proofs.Theorems.Moves.{insert-moves, remove-moves}

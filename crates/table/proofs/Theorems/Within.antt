@@ -15,7 +15,8 @@ use Rattle.table.specs.Does.{Outcome, refused, done, rowOf, refusalsOf, 
 use Rattle.table.specs.Numbers.{Applies}
 use Rattle.table.specs.Reported.{noSlot, reported}
 use Rattle.table.specs.Totals.{totalAfter}
-use Rattle.table.specs.Within.{exceeds, promiseWithin, doesWithin, reportedWithin, totalWithin}
+use Rattle.table.specs.Within.{exceeds, doesWithin, reportedWithin, totalWithin}
+use Rattle.table.specs.PromiseWithin.{promiseWithin}
 use Rattle.table.proofs.Laws.Refusals.{either}
 use Rattle.table.proofs.Laws.Within.{exceeding, exceeded}
 use Rattle.table.proofs.Theorems.Numbers.{call-numbers}

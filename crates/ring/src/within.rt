@@ -20,7 +20,7 @@ impl Ring {
             return refused(1, self);
         }
         if len < i {
-            return refused(3, self);
+            return refused(3, self); // there is no such place
         }
         if cap <= len {
             return refused(6, self);
@@ -54,7 +54,7 @@ impl Ring {
             if table::invalid_ring(cap, head, len) {
                 return refused(1, self);
             }
-            return refused(3, self);
+            return refused(3, self); // nothing stands at i
         }
         let last = len - 1;
         let at = slots::slot(cap, head, i);

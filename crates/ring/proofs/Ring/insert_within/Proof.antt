@@ -20,7 +20,7 @@ insert-within-spec =
     (λ c κs. search needs)
     (λ c. search refusals-within)
     (λ c κs. search needs)
-    (λ c. search more-within)
+    (λ c. search more-within)  -- those before i are too many
     (λ c κs. omega state)
     (λ c κs. omega state)
     (λ c κs. omega state)
@@ -32,7 +32,7 @@ insert-within-spec =
     (λ c. search needs)
     (λ c. search (insert-front-done, shown-within, c .before .before .before .before .before .before .before .before .before .before .before .before .before .invalid-ring .ensures))  -- that test stands far back
     (λ c κs. search needs)
-    (λ c. search more-within)
+    (λ c. search more-within)  -- those from i on are too many
     (λ c κs. omega state)
     (λ c κs. omega state)
     (λ c. search needs)

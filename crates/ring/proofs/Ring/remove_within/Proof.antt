@@ -24,7 +24,7 @@ remove-within-spec =
     (λ c. search needs)
     (λ c. omega state)
     (λ c κs. search needs)
-    (λ c. search more-within)
+    (λ c. search more-within)  -- those before i are too many
     (λ c κs. omega state)
     (λ c. omega state)
     (λ c. omega state)

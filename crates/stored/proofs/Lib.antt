@@ -2,6 +2,10 @@
 pub mod Lines
 pub mod Writes
 pub mod Numbers
+pub mod Pieces
+pub mod Exactly
+pub mod Judging
+pub mod Taking
 pub mod Ours
 pub mod Once
 pub mod Worked

@@ -4,3 +4,8 @@ pub mod Written
 pub mod Numbers
 pub mod Seen
 pub mod Storing
+pub mod Acceptable
+pub mod Reading
+pub mod Judge
+pub mod Reads
+pub mod First

@@ -1,4 +1,7 @@
 // The stored form: a container written as lines of hexadecimal digits into a lent text.
+pub mod judges; // judges.rt: whether a text is acceptable
+pub mod readers; // readers.rt: a text read back
+
 use ring::Ring;
 use vector::Vector;
 ghost use mathlib.Core.Path.{_≡_};

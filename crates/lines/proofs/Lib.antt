@@ -1,0 +1,3 @@
+-- The laws on lines that the crates above cite.
+pub mod Found
+pub mod Parts

@@ -1,0 +1,2 @@
+-- What the promises of the line reader cite.
+pub mod Line

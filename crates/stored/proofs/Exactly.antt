@@ -206,12 +206,12 @@ at-home c h n ok = go (eqb n 0) refl
     go true e = rw e (sym (ring-facts c h n (ap not ok) .home (eqb-true _ _ e)))
     go false e = rw e
 
-empty-valid : (c : ℕ) → 0 < c → c ≤ most → valid ring c 0 0 ≡ true
+pub home-valid : (c : ℕ) → 0 < c → c ≤ most → valid ring c 0 0 ≡ true
 unfolding valid
-empty-valid c some few = let z : 0 ≤ c = omega arith in rw (le-leb c most few, le-leb 0 c z, lt-ltb 0 c some)
+home-valid c some few = let z : 0 ≤ c = omega arith in rw (le-leb c most few, le-leb 0 c z, lt-ltb 0 c some)
 
 some-head : (c h : ℕ) → h < c → c ≤ most → valid ring c h 0 ≡ false → 0 < h
-some-head c zero lt few bad = absurd (let e : true ≡ false = sym (empty-valid c lt few) ∙ bad in let z : _≡_ {A = ℕ} 0 1 = cc in omega arith)
+some-head c zero lt few bad = absurd (let e : true ≡ false = sym (home-valid c lt few) ∙ bad in let z : _≡_ {A = ℕ} 0 1 = cc in omega arith)
 some-head c (suc h) lt few bad = omega arith
 
 bared : (text : List ℕ) → lenIn text ≡ 0 → told ring text ≡ bare (numbers (capIn text) (drop 17 text))

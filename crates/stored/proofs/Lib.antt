@@ -4,8 +4,12 @@ pub mod Writes
 pub mod Numbers
 pub mod Pieces
 pub mod Exactly
+pub mod Given
+pub mod Trip
 pub mod Judging
 pub mod Taking
 pub mod Ours
 pub mod Once
+pub mod OursRead
+pub mod OnceRead
 pub mod Worked

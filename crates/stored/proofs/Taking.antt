@@ -6,7 +6,7 @@ use Prim.Native.Nat.{ℕ, zero, suc, _+_, _-_, _*_, _%_, _^_, _≤_, _<_}
 use native.Mathlib.Nat.{mod-eq-of-lt}
 use native.Mathlib.Numerals.{add-one}
 use native.Mathlib.Omega.{arith}
-use borrow.Author.Tests.{lt-ltb, le-ltb, eq-eqb, ne-eqb, eqb-true}
+use borrow.Author.Tests.{eq-eqb, ne-eqb}
 use lib.Dec.{ltb, leb, eqb}
 use lib.ListN.{length, take, drop, set, length-take, length-drop}
 use lib.Seq.{drop-drop, take-suc-set, take-all}
@@ -37,6 +37,7 @@ use Rattle.stored.specs.Judge.{areLines, numbers, capIn, headOf, lenIn, 
 use Rattle.stored.specs.Reads.{reads, totalRead, RingRead, VectorRead}
 use Rattle.stored.specs.First.{firstOf, judged}
 use Rattle.stored.proofs.Exactly.{start, lines, many, stands-told, standing-valid}
+use Rattle.stored.proofs.Given.{reads-over, reads-other, reads-room, reads-done}
 use Rattle.stored.proofs.Judging.{line-there, first-is, opens-line}
 
 -- SLOT AFTER SLOT: those that are written, with what the lines left say, are always what all lines say
@@ -143,26 +144,8 @@ module _ (k : Kind) (text : List ℕ) (j : Judged) (ej : j ≡ judged k text) wh
     told-valid : Valid (cap (told k text)) (told k text .head) (told k text .len)
     told-valid = standing-valid k text (told k text) (stands-told k text ok)
 
--- THE ANSWERS, in the order of the refusals
+-- THE ANSWERS
 module _ (k : Kind) (text slots : List ℕ) where
-  reads-over : most < length slots → reads k text slots ≡ refused (bare slots) nowhere 1
-  unfolding reads
-  reads-over h = rw (lt-ltb _ _ h)
-
-  module _ (few : length slots ≤ most) where
-    reads-other : judge k text ≡ false → reads k text slots ≡ refused (bare slots) nowhere 14
-    unfolding reads
-    reads-other e = rw (le-ltb _ _ few, e)
-
-    module _ (ok : judge k text ≡ true) where
-      reads-room : (cap (told k text) ≡ length slots → ⊥) → reads k text slots ≡ refused (bare slots) nowhere 6
-      unfolding reads
-      reads-room ne = rw (le-ltb _ _ few, ok, ne-eqb _ _ ne)
-
-      reads-done : cap (told k text) ≡ length slots → reads k text slots ≡ gives 0 0 (told k text .head) (told k text .len) (told k text .slots)
-      unfolding reads
-      reads-done same = rw (le-ltb _ _ few, ok, eq-eqb _ _ same)
-
   -- a refused reading leaves nothing to add up
   none-read-total : (m n : ℕ) → reads k text slots ≡ refused (bare slots) nowhere m → n ≡ 0 → n ≡ totalRead k text slots
   unfolding totalRead

@@ -19,7 +19,7 @@ use Rattle.vector.proofs.shows as shows·fn
 use Rattle.vector.proofs.done as done·fn
 
 -- an answer is told by what is seen of it, by the slot that it reports and by the total
-told-by : (o : Outcome) (n m : ℕ) (r r′ : Answer) (s s′ : List ℕ) → seen r s ≡ o → seen r′ s′ ≡ o → r .slot ≡ n → r′ .slot ≡ n → r .vector .total .sum ≡ m → r′ .vector .total .sum ≡ m
+pub told-by : (o : Outcome) (n m : ℕ) (r r′ : Answer) (s s′ : List ℕ) → seen r s ≡ o → seen r′ s′ ≡ o → r .slot ≡ n → r′ .slot ≡ n → r .vector .total .sum ≡ m → r′ .vector .total .sum ≡ m
     → (r ≡ r′) × (s ≡ s′)
 told-by o n m r r′ s s′ e e′ slot slot′ sum sum′ =
     one-answer {B = ℕ × ℕ} seen (λ r. (r .slot, r .vector .total .sum))

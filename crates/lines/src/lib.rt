@@ -75,7 +75,7 @@ impl<'a> Lines<'a> {
 
 // The reader for a caller that has the text and the place as a slice and a number: its promise speaks of no reader, so the caller's proof needs none.
 pub fn line_from(text: &[u8], at: usize, k: usize) -> Step
-    ensures { λ r. ⌜ r ≡ lineAt (now (text .entry)) at k ⌝ }
+    ensures { λ step. ⌜ step ≡ lineAt (now (text .entry)) at k ⌝ }
 {
     let lines = Lines { text, at };
     let taken = lines.next_line(k);

@@ -6,6 +6,7 @@ pub mod Pieces
 pub mod Exactly
 pub mod Given
 pub mod Trip
+pub mod There
 pub mod Judging
 pub mod Taking
 pub mod Ours
@@ -13,3 +14,4 @@ pub mod Once
 pub mod OursRead
 pub mod OnceRead
 pub mod Worked
+pub mod WorkedRead

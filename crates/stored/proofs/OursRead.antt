@@ -39,7 +39,7 @@ same-kind vector vector e = refl
 holds-told : (k : Kind) (text slots : List ℕ) → Holds k (reads k text slots .tray) (ifDone (reads k text slots .number) (list k (told k text)) [])
 holds-told k text slots =
     reads-either k text slots (λ o. Holds k (o .tray) (ifDone (o .number) (list k (told k text)) []))
-    (λ m over. refused-arrives k (list k (told k text)) slots m over)
+    (λ m over few. refused-arrives k (list k (told k text)) slots m over)
     (λ few ok same. let v = standing-valid k text (told k text) (stands-told k text ok) in record { good = record { fits = v .fits; headed = v .inside }; listed = refl })
 
 pub reading-arrives : (k : Kind) (text : List ℕ) → Arrives (reading k text)
@@ -48,7 +48,7 @@ reading-arrives k text = record { holds = λ k′ slots can. rw (← same-kind k
 -- an empty ring has head 0
 home-told : (k : Kind) (text slots : List ℕ) → AtHome k (reads k text slots .tray)
 home-told ring text slots =
-    reads-either ring text slots (λ (o : Outcome). o .tray .len ≡ 0 → o .tray .head ≡ 0) (λ m over empty. refl)
+    reads-either ring text slots (λ (o : Outcome). o .tray .len ≡ 0 → o .tray .head ≡ 0) (λ m over few empty. refl)
     (λ few ok same. standing-valid ring text (told ring text) (stands-told ring text ok) .home)
 home-told vector text slots = tt
 
@@ -57,7 +57,7 @@ reading-homes k text = record { home = λ k′ slots can. home-told k′ text sl
 
 -- and there are as many slots as were lent
 pub reading-sized : (k : Kind) (text : List ℕ) → SizedMade (reading k text)
-reading-sized k text = record { same = λ k′ slots. reads-either k′ text slots (λ (o : Outcome). cap (o .tray) ≡ length slots) (λ m over. refl) (λ few ok same. same) }
+reading-sized k text = record { same = λ k′ slots. reads-either k′ text slots (λ (o : Outcome). cap (o .tray) ≡ length slots) (λ m over few. refl) (λ few ok same. same) }
 
 pub ours-read : (w : World) (k : Kind) (text slots : List ℕ) (o : Outcome) → alike k k ≡ true → o ≡ reads k text slots → Ours w (arrived k (reading k text) slots o)
 ours-read w k text slots o can e = (can, e, reading-arrives k text)

@@ -45,8 +45,8 @@ pub record Done (k : Kind) (text slots : List ℕ) (o : Outcome) : Type 0 where
 
 pub read-done : (k : Kind) (text slots : List ℕ) → reads k text slots .number ≡ 0 → Done k text slots (reads k text slots)
 read-done k text slots = reads-either k text slots (λ o. o .number ≡ 0 → Done k text slots o)
-    (λ m some none. absurd (omega arith))
-    (λ few ok same none. record { stands = stands-told k text ok; many = same })
+    (λ m over few zero. absurd (omega arith))
+    (λ few ok same zero. record { stands = stands-told k text ok; many = same })
 
 written-text : (k : Kind) (t : Tray) (buffer : List ℕ) → valid k (cap t) (t .head) (t .len) ≡ true → size (cap t) ≤ length buffer → writes k t buffer .text ≡ put buffer 0 (form k t)
 unfolding writes

@@ -29,7 +29,7 @@ pub one-held : {b b′ : Held} → b .tray ≡ b′ .tray → b .total ≡ b′ 
 one-held tray total = ap₂ (λ t n. record { tray = t; total = n }) tray total
 
 -- of a call, and of a making: o is its outcome, m the slot and n the total
-one-of : (o : Outcome) (m n : ℕ) (w w′ : ℕ) (t t′ : Held) → heard w (t .tray) ≡ o → heard w′ (t′ .tray) ≡ o → slotIn w ≡ m → slotIn w′ ≡ m → t .total ≡ n → t′ .total ≡ n → (w ≡ w′) × (t ≡ t′)
+pub one-of : (o : Outcome) (m n : ℕ) (w w′ : ℕ) (t t′ : Held) → heard w (t .tray) ≡ o → heard w′ (t′ .tray) ≡ o → slotIn w ≡ m → slotIn w′ ≡ m → t .total ≡ n → t′ .total ≡ n → (w ≡ w′) × (t ≡ t′)
 one-of o m n w w′ t t′ p q slot slot′ total total′ =
     let same = p ∙ sym q in (
       one-word w w′ (ap (λ (o : Outcome). o .number) same) (ap (λ (o : Outcome). o .value) same) (ap (λ (o : Outcome). o .moves) same) (slot ∙ sym slot′),

@@ -13,10 +13,10 @@ use Rattle.table.specs.Calls.{Look}
 use Rattle.table.specs.Does.{Outcome2}
 use Rattle.table.specs.Parts.{Part}
 use Rattle.stored.specs.Written.{Written}
-use Rattle.tumbrelice.specs.Heard.{Held, HearsAt, HearsInto, vectorOf, cursorOf}
-use Rattle.tumbrelice.specs.HeardText.{HearsStored}
+use Rattle.tumbrelice.specs.Heard.{Held, HearsAt, HearsInto, ringOf, vectorOf, cursorOf}
+use Rattle.tumbrelice.specs.HeardText.{HearsStored, HearsRead}
 use Rattle.tumbrelice.specs.HeardPart.{partIn}
-use Rattle.tumbrelice.proofs.Once.{one-word, one-held}
+use Rattle.tumbrelice.proofs.Once.{one-word, one-held, one-of}
 use Rattle.tumbrelice.proofs.ring_walks as ring-walks
 use Rattle.tumbrelice.proofs.vector_walks as vector-walks
 use Rattle.tumbrelice.proofs.parts as parts
@@ -41,6 +41,9 @@ one-part w w′ same =
     let first : w % 4294967296 ≡ w′ % 4294967296 = ap (λ (p : Part). p .start) same in
     let count : w / 4294967296 ≡ w′ / 4294967296 = ap (λ (p : Part). p .count) same in
     omega arith
+
+one-read : {k : Kind} {text slots : List ℕ} (w w′ : ℕ) (t t′ : Held) → HearsRead k text slots w t → HearsRead k text slots w′ t′ → (w ≡ w′) × (t ≡ t′)
+one-read w w′ t t′ p q = one-of _ _ _ w w′ t t′ (p .row) (q .row) (p .slot) (q .slot) (p .total) (q .total)
 
 one-stored : {k : Kind} {b : Held} {text : List ℕ} (w w′ : ℕ) (z z′ : List ℕ) → HearsStored k b text w z → HearsStored k b text w′ z′ → (w ≡ w′) × (z ≡ z′)
 one-stored w w′ z z′ p q =
@@ -111,6 +114,16 @@ module _ (κs : Lfts 3) where
 
   pub tum-vector-text-once : Twice forms.tum_vector_text.ended κs (forms.tum_vector_text.Reads.Learnt κs) (λ r e r′ e′. (r ≡ r′) × (now (e .1 .1 .0) ≡ now (e′ .1 .1 .0)))
   tum-vector-text-once a r r′ e e′ p q = one-stored r r′ _ _ p q
+
+  pub tum-ring-text-read-once : Twice forms.tum_ring_text_read.ended κs (forms.tum_ring_text_read.Reads.Learnt κs) (λ r e r′ e′. (r ≡ r′) × (ringOf (now (e .1 .0)) (now (e .0)) ≡ ringOf (now (e′ .1 .0)) (now (e′ .0))))
+  tum-ring-text-read-once a r r′ e e′ p q = one-read r r′ _ _ p q
+
+  pub tum-vector-text-read-once : Twice forms.tum_vector_text_read.ended κs (forms.tum_vector_text_read.Reads.Learnt κs) (λ r e r′ e′. (r ≡ r′) × (vectorOf (now (e .1 .0)) (now (e .0)) ≡ vectorOf (now (e′ .1 .0)) (now (e′ .0))))
+  tum-vector-text-read-once a r r′ e e′ p q = one-read r r′ _ _ p q
+
+module _ (κs : Lfts 1) where
+  pub tum-stored-check-once : Twice forms.tum_stored_check.ended κs (forms.tum_stored_check.Reads.Learnt κs) (λ r e r′ e′. r ≡ r′)
+  tum-stored-check-once a r r′ e e′ p q = p ∙ sym q
 
 module _ (κs : Lfts 5) where
   pub tum-ring-from-iter-once : Twice ring-walks.tum_ring_from_iter.ended κs (ring-walks.tum_ring_from_iter.Reads.Learnt κs) (λ r e r′ e′. (r ≡ r′) × (cursorOf (now (e .1 .1 .0)) ≡ cursorOf (now (e′ .1 .1 .0))) × (vectorOf (now (e .1 .1 .1 .1 .0)) (now (e .1 .1 .1 .0)) ≡ vectorOf (now (e′ .1 .1 .1 .1 .0)) (now (e′ .1 .1 .1 .0))))

@@ -9,13 +9,15 @@ use borrow.Fn.World.{ArgsD, ResD}
 use Rattle.slots.specs.Layout.{ring, vector}
 use Rattle.table.specs.Calls.{look, iter, intoIter, stepFront, stepBack, peekFront, peekBack, fromIter}
 use Rattle.table.specs.Parts.{lends, lendsAll, inPart}
-use Rattle.table.specs.World.{World, on, onTwo, called, Ours}
+use Rattle.table.specs.World.{World, on, onTwo, arrived, called, Ours}
 use Rattle.table.proofs.Laws.Named.{Is, Are, ours-on, ours-on-two, ours-called}
 use Rattle.vector.specs.Reading.{shown, reading}
 use Rattle.vector.proofs.Ours.{reads}
 use Rattle.stored.specs.Written.{Written}
 use Rattle.stored.specs.Storing.{storing}
 use Rattle.stored.proofs.Ours.{storing-kept}
+use Rattle.stored.specs.Reads.{reading as reading-text}
+use Rattle.stored.proofs.OursRead.{ours-read}
 use Rattle.tumbrelice.specs.Heard.{heardAt, heard, heardInto, ringTray, vectorTray, cursorOf}
 use Rattle.tumbrelice.specs.HeardPart.{partIn}
 use Rattle.tumbrelice.proofs.ring_walks as ring-walks
@@ -34,6 +36,17 @@ module _ (w : World) (i : ℕ) (κs : Lfts 3) where
       → Is w i vector (vectorTray (now (a .1 .0)) (now (a .0))) → forms.tum_vector_text.Reads.Learnt κs a r e
       → Ours w (called i (storing (now (a .1 .1 .0))) (heard r (vectorTray (now (a .1 .0)) (now (a .0)))))
   tum-vector-text-ours a r e is learnt = ours-called w i vector _ _ _ (storing-kept _) refl is (ap (λ (w : Written). w .outcome) (learnt .row))
+
+module _ (w : World) (κs : Lfts 3) where
+  pub tum-ring-text-read-ours : (a : ArgsD forms.tum_ring_text_read.signature κs) (r : ResD forms.tum_ring_text_read.signature κs) (e : AtExit forms.tum_ring_text_read.ended κs)
+      → forms.tum_ring_text_read.Reads.Learnt κs a r e
+      → Ours w (arrived ring (reading-text ring (now (a .1 .1 .0))) (now (a .0)) (heard r (ringTray (now (e .1 .0)) (now (e .0)))))
+  tum-ring-text-read-ours a r e learnt = ours-read w ring _ _ _ refl (learnt .row)
+
+  pub tum-vector-text-read-ours : (a : ArgsD forms.tum_vector_text_read.signature κs) (r : ResD forms.tum_vector_text_read.signature κs) (e : AtExit forms.tum_vector_text_read.ended κs)
+      → forms.tum_vector_text_read.Reads.Learnt κs a r e
+      → Ours w (arrived vector (reading-text vector (now (a .1 .1 .0))) (now (a .0)) (heard r (vectorTray (now (e .1 .0)) (now (e .0)))))
+  tum-vector-text-read-ours a r e learnt = ours-read w vector _ _ _ refl (learnt .row)
 
 module _ (w : World) (i : ℕ) (κs : Lfts 3) where
   pub tum-ring-iter-ours : (a : ArgsD ring-walks.tum_ring_iter.signature κs) (r : ResD ring-walks.tum_ring_iter.signature κs) (e : AtExit ring-walks.tum_ring_iter.ended κs)

@@ -1,5 +1,6 @@
 -- What is heard of the calls on a text, the stored form or a record, is what is seen of them, and every answer fits a word.
 use mathlib.Core.Path.{_≡_, refl, sym, ap, _∙_}
+use mathlib.Core.Bool.{Bool, true, false, cond}
 use mathlib.Core.List.{List}
 use Prim.Native.Nat.{ℕ, suc, _^_, _<_}
 use native.Mathlib.Omega.{arith}
@@ -23,13 +24,16 @@ use Rattle.stored.specs.Written.{Written, refusalsText, writes}
 use Rattle.stored.specs.Seen.{seenRing, seenVector, RingStored, VectorStored}
 use Rattle.stored.proofs.Writes.{refusing, telling}
 use Rattle.stored.proofs.Ours.{as-it-was}
+use Rattle.stored.specs.Reads.{reads, RingRead, VectorRead}
+use Rattle.stored.specs.Judge.{judgeBy}
+use Rattle.stored.proofs.Given.{reads-either}
 use Rattle.record.specs.declared.texts.Told.{Told}
 use Rattle.record.specs.Recorded.{judges, records, totalStarts, totalEnds, Records}
 use Rattle.record.specs.Unquoted.{Unquoted, unquoted, Unquotes}
 use Rattle.record.proofs.Theorems.Small.{few-numbers, no-moves, judged-few, unquoted-few}
 use Rattle.record.proofs.Theorems.Numbers.{records-refused}
-use Rattle.tumbrelice.specs.Heard.{Worded, Held, ringIn, vectorIn, vectorOut, unlessRefused, ringOf, vectorOf}
-use Rattle.tumbrelice.specs.HeardText.{HearsStored, HearsRecord, heardTold, HearsTold, HearsUndone}
+use Rattle.tumbrelice.specs.Heard.{Worded, Held, ringIn, vectorIn, ringOut, vectorOut, unlessRefused, ringOf, vectorOf}
+use Rattle.tumbrelice.specs.HeardText.{HearsStored, HearsRead, HearsRecord, heardTold, HearsTold, HearsUndone}
 use Rattle.tumbrelice.proofs.Words.{none-fits, heard-at, vector-comes-out}
 use Rattle.tumbrelice.proofs.Twos.{heard2-is}
 
@@ -136,6 +140,50 @@ pub vector-stored-heard : (st s text text′ : List ℕ) (v : Vector) (a : vecto
 vector-stored-heard st s text text′ v a word ev e w =
     let e′ : VectorStored (vectorIn st) s text a text′ = rw ev at e in
     storing vector (vectorOf st s) text (seenVector a s text′) (a .slot) word (e′ .row) refl (e′ .slot) w
+
+-- the stored form's reader: its numbers and moves, and its state, which comes out whole
+reads-small : (k : Kind) (text slots : List ℕ) → (reads k text slots .number < 16) × (reads k text slots .moves ≡ 0)
+reads-small k text slots =
+    reads-either k text slots (λ (o : Outcome). (o .number < 16) × (o .moves ≡ 0)) (λ m over few. (omega arith, refl)) (λ few ok same. (omega arith, refl))
+
+module _ (text s z : List ℕ) (a : ringAnswer.Answer) (e : RingRead text s a z) where
+  pub ring-read-number : a .number < 16
+  ring-read-number = omega (arith, reads-small ring text s .0, ap (λ (o : Outcome). o .number) (e .row))
+
+  pub ring-read-moves : a .moves < 4096
+  ring-read-moves = omega (arith, reads-small ring text s .1, ap (λ (o : Outcome). o .moves) (e .row))
+
+  pub ring-read-slot : a .slot < 65536
+  ring-read-slot = none-fits (a .slot) (e .slot)
+
+module _ (text s z : List ℕ) (a : vectorAnswer.Answer) (e : VectorRead text s a z) where
+  pub vector-read-number : a .number < 16
+  vector-read-number = omega (arith, reads-small vector text s .0, ap (λ (o : Outcome). o .number) (e .row))
+
+  pub vector-read-moves : a .moves < 4096
+  vector-read-moves = omega (arith, reads-small vector text s .1, ap (λ (o : Outcome). o .moves) (e .row))
+
+  pub vector-read-slot : a .slot < 65536
+  vector-read-slot = none-fits (a .slot) (e .slot)
+
+pub ruleset reads-fit = (ring-read-number, ring-read-moves, ring-read-slot, vector-read-number, vector-read-moves, vector-read-slot)
+
+pub ring-read-heard : (st s s′ text : List ℕ) (a : ringAnswer.Answer) (word : ℕ) → RingRead text s a s′ → st ≡ ringOut (a .ring)
+    → Worded (a .number) (a .value) (a .moves) (a .slot) word → HearsRead ring text s word (ringOf st s′)
+ring-read-heard st s s′ text a word e es w =
+    rw es (record { row = heard-at _ _ _ _ word (rings.tray (a .ring) s′) nowhere _ w (e .row); slot = w .slot ∙ e .slot; total = e .total })
+
+pub vector-read-heard : (st s s′ text : List ℕ) (a : vectorAnswer.Answer) (word : ℕ) → VectorRead text s a s′ → st ≡ vectorOut (a .vector)
+    → Worded (a .number) (a .value) (a .moves) (a .slot) word → HearsRead vector text s word (vectorOf st s′)
+vector-read-heard st s s′ text a word e es w =
+    rw es (record { row = heard-at _ _ _ _ word (vectors.tray (a .vector) s′) nowhere _ w (e .row); slot = w .slot ∙ e .slot; total = e .total })
+
+-- the check's number
+pub checked-yes : (b j : Bool) → b ≡ j → b ≡ true → _≡_ {A = ℕ} 1 (cond j 1 0)
+checked-yes b j e t = let ok : j ≡ true = sym e ∙ t in rw ok
+
+pub checked-no : (b j : Bool) → b ≡ j → b ≡ false → _≡_ {A = ℕ} 0 (cond j 1 0)
+checked-no b j e f = let bad : j ≡ false = sym e ∙ f in rw bad
 
 -- an answer on a text alone
 pub judged-fits : (text : List ℕ) (a : Told) → a ≡ judges text → a .number < 16

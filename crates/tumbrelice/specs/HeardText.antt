@@ -5,6 +5,7 @@ use mathlib.Core.List.{List}
 use Rattle.slots.specs.Layout.{Kind}
 use Rattle.table.specs.Reported.{noSlot}
 use Rattle.stored.specs.Written.{Written, writes}
+use Rattle.stored.specs.Reads.{reads, totalRead}
 use Rattle.record.specs.declared.texts.Told.{Told}
 use Rattle.record.specs.Recorded.{told, judges, records, totalStarts, totalEnds}
 use Rattle.record.specs.Unquoted.{unquoted, unquotes}
@@ -18,6 +19,12 @@ heardStored word b text = record { outcome = heard word (b .tray); text = text }
 pub record HearsStored (k : Kind) (b : Held) (before : List ℕ) (word : ℕ) (after : List ℕ) : Type 0 where
   pub row : heardStored word b after ≡ writes k (b .tray) before
   pub slot : slotIn word ≡ noSlot
+
+-- of a stored form's reader, on slots that held these numbers: its word and the container are what `reads` says, with the total worked out
+pub record HearsRead (k : Kind) (text slots : List ℕ) (word : ℕ) (after : Held) : Type 0 where
+  pub row : heard word (after .tray) ≡ reads k text slots
+  pub slot : slotIn word ≡ noSlot
+  pub total : after .total ≡ totalRead k text slots
 
 -- of a record read onto two vectors: its word, both vectors afterwards and their totals are what `records` says; here and below no slot is reported
 pub record HearsRecord (text : List ℕ) (before before2 : Held) (word : ℕ) (after after2 : Held) : Type 0 where

@@ -1,6 +1,5 @@
 -- `lines::Lines::next_line` meets its contract: a walk of its MIR, by hand. The reader is taken apart, `line_at` is called on the text and the place, and the answer goes into a struct beside the reader at the next place. All that the proof knows of `line_at` is that it meets its contract.
 -- The reader is Copy: what it owns is had twice at the call, where of one copy what text owns goes to the callee, and twice at the exit, where one copy, with the facts of the next place in the place of at's, is what the moved reader owns.
---
 use mathlib.Core.Path.{_≡_, refl, ap}
 use Prim.Native.Nat.{ℕ, _<_, _^_}
 use mathlib.Core.List.{[], _∷_}

@@ -35,18 +35,18 @@ pub extern "C" fn tum_vector_text(slots: &[u32], state: &[u64; 2], text: &mut [u
 pub extern "C" fn tum_ring_text_read(slots: &mut [u32], state: &mut [u64; 3], text: &[u8]) -> u64
     ensures { λ r. ⌜ HearsRead ring (now (text .entry)) (now (slots .entry)) r (ringOf (now (state .exit)) (now (slots .exit))) ⌝ }
 {
-    let a = readers::ring_read(text, slots);
-    *state = ring_made(a.ring);
-    word(a.number, a.value, a.moves, a.slot)
+    let made = readers::ring_read(text, slots);
+    *state = ring_made(made.ring);
+    word(made.number, made.value, made.moves, made.slot)
 }
 
 #[no_mangle]
 pub extern "C" fn tum_vector_text_read(slots: &mut [u32], state: &mut [u64; 2], text: &[u8]) -> u64
     ensures { λ r. ⌜ HearsRead vector (now (text .entry)) (now (slots .entry)) r (vectorOf (now (state .exit)) (now (slots .exit))) ⌝ }
 {
-    let a = readers::vector_read(text, slots);
-    *state = vector_made(a.vector);
-    word(a.number, a.value, a.moves, a.slot)
+    let read = readers::vector_read(text, slots);
+    *state = vector_made(read.vector);
+    word(read.number, read.value, read.moves, read.slot)
 }
 
 // Whether a text can be read, by a kind number of 64 bits, so that no other number is cut down to a kind: 1 is a yes, 0 a no.

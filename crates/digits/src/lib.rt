@@ -3,7 +3,8 @@ ghost use mathlib.Core.Path.{_≡_};
 ghost use Prim.Native.Nat.{_^_, _<_};
 ghost use mathlib.Core.Bool.{true, not};
 ghost use lib.ListN.{length};
-ghost use Rattle.digits.specs.Hex.{digit, hex, areDigits, isDigit, worth, numberIn};
+ghost use Rattle.digits.specs.Hex.{digit, hex, areDigits, isDigit, numberIn};
+ghost use Rattle.digits.specs.Spelling.{spelled, Weighs};
 ghost use Rattle.digits.specs.Put.{putWhole};
 
 // The byte of a digit.
@@ -55,30 +56,52 @@ pub fn are_digits(part: &[u8]) -> bool
     true
 }
 
-// What a digit says.
+// What a digit says, by its low bits; of any other byte something below 16. No branch is in it.
 fn worth(b: u8) -> u64
-    requires { ⌜ isDigit b ≡ true ⌝ }
-    ensures { λ r. ⌜ (r ≡ worth b) × (r < 16) ⌝ }
+    ensures { λ r. ⌜ Weighs b r ⌝ }
 {
-    if b < 58 { b as u64 - 48 } else { b as u64 - 87 }
+    ((b % 16 + 9 * (b / 64)) % 16) as u64
 }
 
-// What a part says. One that is no number of 64 bits, digits and sixteen at most, says 0.
-pub fn number(part: &[u8]) -> u64
-    ensures { λ r. ⌜ (r ≡ numberIn (now (part .entry))) × (r < 16 ^ length (now (part .entry))) ⌝ }
+// A part read as a number of 64 bits: whether it is one, digits and sixteen at most, and what it says; 0 if it is none.
+pub struct Said {
+    pub is: bool,
+    pub number: u64,
+}
+
+// The loop has no exit, so that the compiler looks at several bytes at once.
+pub fn spelled(part: &[u8]) -> Said
+    ensures { λ r. ⌜ (r ≡ spelled (now (part .entry))) × (r .number < 16 ^ length (now (part .entry))) ⌝ }
 {
+    let none = Said {
+        is: false,
+        number: 0,
+    };
     if 16 < part.len() {
-        return 0;
+        return none;
     }
+    let mut bad = false;
     let mut x: u64 = 0;
     let mut i = 0;
     while i < part.len() {
         let b = part[i];
-        if no_digit(b) {
-            return 0;
-        }
+        bad = bad | no_digit(b);
         x = x * 16 + worth(b);
         i += 1;
     }
-    x
+    if bad {
+        return none;
+    }
+    Said {
+        is: true,
+        number: x,
+    }
+}
+
+// What a part says. One that is no number says 0.
+pub fn number(part: &[u8]) -> u64
+    ensures { λ r. ⌜ (r ≡ numberIn (now (part .entry))) × (r < 16 ^ length (now (part .entry))) ⌝ }
+{
+    let read = spelled(part);
+    read.number
 }

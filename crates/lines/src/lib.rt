@@ -47,10 +47,10 @@ pub fn line_at(text: &[u8], at: usize, k: usize) -> Step
     if text[end] != 10 {
         return none;
     }
-    let part = &text[at..end];
-    if digits::are_digits(part) {
+    let said = digits::spelled(&text[at..end]);
+    if said.is {
         return Step {
-            line: Line::Number(digits::number(part)),
+            line: Line::Number(said.number),
             next: end + 1,
         };
     }

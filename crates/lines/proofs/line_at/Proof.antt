@@ -19,7 +19,6 @@ line-at-spec =
     (λ c. search needs)
     (λ c. search needs)
     (λ c κs. search needs)
-    (λ c κs. search needs)
     (λ c. search needs)
     (λ c. search found)
     (λ c. search no-digits))

@@ -48,6 +48,11 @@ read-done k text slots = reads-either k text slots (λ o. o .number ≡ 0 → Do
     (λ m over few zero. absurd (omega arith))
     (λ few ok same zero. record { stands = stands-told k text ok; many = same })
 
+-- and one that was refused leaves state 0, 0 and every slot as it was
+pub read-refused : (k : Kind) (text slots : List ℕ) → 0 < reads k text slots .number → reads k text slots ≡ refused (bare slots) nowhere (reads k text slots .number)
+read-refused k text slots =
+    reads-either k text slots (λ o. 0 < o .number → o ≡ refused (bare slots) nowhere (o .number)) (λ m over few some. refl) (λ few ok same above. absurd (omega arith))
+
 written-text : (k : Kind) (t : Tray) (buffer : List ℕ) → valid k (cap t) (t .head) (t .len) ≡ true → size (cap t) ≤ length buffer → writes k t buffer .text ≡ put buffer 0 (form k t)
 unfolding writes
 written-text k t buffer ok room = rw (ok, le-ltb _ _ room)

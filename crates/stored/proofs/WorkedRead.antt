@@ -5,13 +5,16 @@ use mathlib.Core.List.{List, [], _∷_, _++_}
 use Prim.Native.Nat.{ℕ}
 use lib.ListN.{set, take, drop}
 use Rattle.slots.specs.Layout.{ring, vector, slotOf, entries}
+use Rattle.slots.specs.Count.{one}
 use Rattle.slots.specs.Lists.{tabulate}
 use Rattle.slots.specs.Total.{total}
 use Rattle.table.specs.Tray.{Tray, valid, nowhere}
 use Rattle.table.specs.Does.{gives, refused, bare}
+use Rattle.table.specs.Ledger.{modelled, entered}
+use Rattle.table.specs.World.{Event, arrived, lines}
 use Rattle.lines.specs.Line.{isLine, field}
 use Rattle.stored.specs.Judge.{areLines, numbers, told, stands, opens, judge, judgeBy}
-use Rattle.stored.specs.Reads.{reads, totalRead}
+use Rattle.stored.specs.Reads.{reads, totalRead, reading}
 
 -- 0000000400020003, then 0000000b, 00000000, 00000009, 0000000a, each ended by LF
 abbrev zeros : List ℕ
@@ -48,3 +51,14 @@ pub older-w : (reads ring (set text 15 48) lent ≡ gives 0 0 0 0 (11 ∷ 0 ∷ 
     × (judge vector (set (set text 15 48) 1 49) ≡ false) × (judge vector (set (set text 11 48) 1 49) ≡ true)
 unfolding reads totalRead judge told stands opens isLine areLines numbers field valid entries tabulate slotOf total
 older-w = (refl, refl, refl, refl)
+
+-- in demand 3 its entries enter, and only these, not the free slot's 0; refused, for a capital B, nothing does
+abbrev readings : List Event
+readings =
+    arrived ring (reading ring text) lent (reads ring text lent)
+    ∷ arrived ring (reading ring (set text 24 66)) lent (reads ring (set text 24 66) lent)
+    ∷ []
+
+pub enters : (modelled [] (lines readings) ≡ (9 ∷ 10 ∷ 11 ∷ []) ∷ [] ∷ []) × (entered 9 [] (lines readings) ≡ 1) × (entered 0 [] (lines readings) ≡ 0)
+unfolding reads judge told stands opens isLine areLines numbers field valid entries tabulate slotOf one
+enters = (refl, refl, refl)

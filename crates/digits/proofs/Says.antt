@@ -1,11 +1,11 @@
 -- Digits and numbers, both ways: what digits say is written as those digits, and what is written says its number.
 use mathlib.Core.Path.{_≡_, refl, sym, ap, _∙_}
-use mathlib.Core.Bool.{Bool, true, false, cond, _&&_, _||_}
+use mathlib.Core.Bool.{Bool, true, false, _&&_}
 use mathlib.Core.List.{List, [], _∷_, _++_, append-assoc, append-nil}
 use Prim.Native.Nat.{ℕ, zero, suc, _+_, _-_, _*_, _/_, _%_, _^_, _≤_, _<_}
 use native.Mathlib.Nat.{pow-suc, add-mul, mul-assoc, mul-comm}
 use native.Mathlib.Omega.{arith}
-use borrow.Author.Tests.{lt-ltb, le-ltb, le-leb, lt-leb, ltb-false, ltb-true}
+use borrow.Author.Tests.{lt-ltb, le-ltb, le-leb, ltb-false, ltb-true}
 use lib.Dec.{ltb, leb}
 use lib.ListN.{length}
 use Rattle.digits.specs.Hex.{digit, hex, isDigit, areDigits, worth, saysFrom, says}

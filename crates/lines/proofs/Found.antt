@@ -4,7 +4,7 @@ use mathlib.Core.Bool.{Bool, true, false, _&&_}
 use mathlib.Core.List.{List}
 use Prim.Native.Nat.{ℕ, _+_, _-_, _≤_, _<_}
 use native.Mathlib.Omega.{arith}
-use borrow.Author.Tests.{lt-ltb, le-ltb, le-leb, lt-leb, eq-eqb, ne-eqb, ltb-true}
+use borrow.Author.Tests.{lt-ltb, le-ltb, le-leb, lt-leb, eq-eqb, ne-eqb}
 use lib.Dec.{ltb, leb, eqb}
 use lib.ListN.{length, getD, take, drop, length-take, length-drop}
 use lib.Seq.{getD-drop}
@@ -12,7 +12,6 @@ use Rattle.digits.specs.Hex.{areDigits, says, lf, numberIn}
 use Rattle.digits.specs.declared.Said.{Said}
 use Rattle.digits.specs.Spelling.{spelled}
 use Rattle.digits.proofs.Digits.{number-says}
-use Rattle.lines.specs.declared.Step.{Step}
 use Rattle.lines.specs.Line.{isLine, field, foundAt, noneAt, lineAt}
 
 -- a part, as the code cuts it

@@ -1,13 +1,13 @@
 -- THE JUDGEMENT IS RIGHT (request 08): it accepts exactly the acceptable texts, and what is told is the one container that a text stands for. A text that stands for a container
 -- is its form, so every field is found where the writer put it; and an accepted text is written again as it was read.
 use mathlib.Core.Path.{_≡_, refl, sym, ap, _∙_}
-use mathlib.Core.Bool.{Bool, true, false, not, cond, _&&_, _||_}
-use mathlib.Core.List.{List, [], _∷_, _++_}
-use Prim.Native.Nat.{ℕ, zero, suc, _+_, _-_, _*_, _^_, _≤_, _<_}
+use mathlib.Core.Bool.{Bool, true, false, not, cond, _||_}
+use mathlib.Core.List.{List, _++_}
+use Prim.Native.Nat.{ℕ, zero, suc, _+_, _-_, _*_, _≤_, _<_}
 use native.Mathlib.Omega.{arith}
-use borrow.Author.Tests.{eq-eqb, ne-eqb, eqb-true, eqb-false, le-leb, leb-true, lt-ltb, ltb-true, le-ltb}
-use lib.Dec.{ltb, leb, eqb}
-use lib.ListN.{length, getD, drop, length-drop}
+use borrow.Author.Tests.{eq-eqb, eqb-true, le-leb, leb-true, lt-ltb, ltb-true}
+use lib.Dec.{ltb, eqb}
+use lib.ListN.{length, drop, length-drop}
 use Rattle.slots.specs.Layout.{most, Kind, ring, vector}
 use Rattle.table.specs.Tray.{Tray, cap, valid}
 use Rattle.table.specs.Does.{headAfter, bare}

@@ -1,19 +1,17 @@
 -- The tests of the code that judges a text, each against what is judged: the numbers of the first line, the state, and line after line.
 use mathlib.Core.Path.{_≡_, refl, sym, ap, _∙_}
-use mathlib.Core.Bool.{Bool, true, false, not, cond, _&&_, _||_}
+use mathlib.Core.Bool.{Bool, true, false, not}
 use mathlib.Core.List.{List}
 use Prim.Native.Nat.{ℕ, zero, suc, _+_, _-_, _*_, _/_, _%_, _≤_, _<_}
 use native.Mathlib.Nat.{not-suc-le-zero}
 use native.Mathlib.Omega.{arith}
 use borrow.Author.Tests.{eq-eqb, ne-eqb, not-true, not-false, le-leb}
-use lib.Dec.{leb, eqb}
+use lib.Dec.{eqb}
 use lib.ListN.{length, drop}
 use lib.Seq.{drop-drop}
 use Rattle.slots.specs.Layout.{Kind, ring, vector}
 use Rattle.table.specs.Tray.{valid}
 use Rattle.table.proofs.Laws.Valid.{and-left}
-use Rattle.lines.specs.declared.Line.{Line}
-use Rattle.lines.specs.declared.Line.the-variants.{Number, Other}
 use Rattle.lines.specs.declared.Step.{Step}
 use Rattle.lines.specs.Line.{isLine, field, foundAt, noneAt, lineAt, isNumber, numberIn}
 use Rattle.lines.proofs.Parts.{line-parts, field-under, field-join}

@@ -1,7 +1,5 @@
 -- One answer of the readers and of the check: any two results that meet a function's generated contract on the same arguments are the same, and so are the slots that they leave.
-use Prim.Native.Nat.{ℕ}
-use mathlib.Core.Path.{_≡_, refl, sym, _∙_}
-use mathlib.Core.List.{List}
+use mathlib.Core.Path.{_≡_, sym, _∙_}
 use contract.Lifetimes.{Lfts}
 use denote.Ref.{now}
 use Rattle.slots.proofs.Twice.{Twice}

@@ -1,6 +1,6 @@
 -- Each reader is an event of demand 3: a container's one making, and the entries that the text tells enter. Done, the slots hold what is told; refused, nothing.
-use Prim.Native.Nat.{ℕ, zero, suc, _≤_, _<_}
-use mathlib.Core.Path.{_≡_, refl, sym, ap, _∙_}
+use Prim.Native.Nat.{ℕ}
+use mathlib.Core.Path.{_≡_, refl}
 use mathlib.Core.Bool.{true}
 use mathlib.Core.List.{List, []}
 use native.Mathlib.Omega.{arith}
@@ -10,13 +10,12 @@ use denote.Ref.{now}
 use denote.Triple.Clauses.{AtExit}
 use borrow.Fn.World.{ArgsD, ResD}
 use Rattle.slots.specs.Layout.{Kind, ring, vector}
-use Rattle.table.specs.Tray.{Tray, cap, list}
+use Rattle.table.specs.Tray.{cap, list}
 use Rattle.table.specs.Calls.{alike}
-use Rattle.table.specs.Does.{Outcome, bare}
+use Rattle.table.specs.Does.{Outcome}
 use Rattle.table.specs.Ledger.{ifDone}
 use Rattle.table.specs.Promise.{Holds, Arrives}
 use Rattle.table.specs.World.{World, arrived, Ours}
-use Rattle.table.proofs.Laws.Valid.{Valid}
 use Rattle.table.proofs.Laws.Keeps.{refused-arrives}
 use Rattle.table.proofs.Theorems.Home.{AtHome}
 use Rattle.table.proofs.Theorems.AlwaysHome.{HomesMade}

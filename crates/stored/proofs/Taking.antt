@@ -1,23 +1,20 @@
 -- The reading, as the code does it: slot after slot from its line, the total of what was read, and each answer in the order of the refusals.
 use mathlib.Core.Path.{_≡_, refl, sym, ap, _∙_}
-use mathlib.Core.Bool.{Bool, true, false, not, cond}
+use mathlib.Core.Bool.{true, false}
 use mathlib.Core.List.{List, [], _∷_, _++_, append-assoc, append-nil}
-use Prim.Native.Nat.{ℕ, zero, suc, _+_, _-_, _*_, _%_, _^_, _≤_, _<_}
-use native.Mathlib.Nat.{mod-eq-of-lt}
+use Prim.Native.Nat.{ℕ, suc, _+_, _-_, _≤_, _<_}
 use native.Mathlib.Numerals.{add-one}
 use native.Mathlib.Omega.{arith}
 use borrow.Author.Tests.{eq-eqb, ne-eqb}
-use lib.Dec.{ltb, leb, eqb}
-use lib.ListN.{length, take, drop, set, length-take, length-drop}
+use lib.ListN.{length, take, drop, set, length-take}
 use lib.Seq.{drop-drop, take-suc-set, take-all}
 use Rattle.slots.specs.Layout.{most, Kind, ring, vector, slotOf, itself, place, entries}
 use Rattle.slots.specs.Total.{total}
 use Rattle.slots.proofs.Placing.{length-entries}
 use Rattle.slots.proofs.Totals.{total-empty}
 use Rattle.runs.specs.declared.total.Total.{Total}
-use Rattle.table.specs.Tray.{Tray, cap, list, valid, nowhere}
+use Rattle.table.specs.Tray.{cap, list, nowhere}
 use Rattle.table.specs.Does.{Outcome, refused, gives, bare, headAfter}
-use Rattle.table.specs.Reported.{noSlot}
 use Rattle.table.proofs.Laws.Valid.{Valid, and-left, and-right}
 use Rattle.digits.specs.Hex.{says}
 use Rattle.digits.proofs.Says.{says-under}
@@ -33,9 +30,9 @@ use Rattle.vector.specs.Seen as vectors
 use Rattle.stored.specs.declared.judges.First.{First}
 use Rattle.stored.specs.declared.judges.Judged.{Judged}
 use Rattle.stored.specs.Form.{kindByte}
-use Rattle.stored.specs.Judge.{areLines, numbers, capIn, headOf, lenIn, told, judge}
+use Rattle.stored.specs.Judge.{areLines, numbers, told, judge}
 use Rattle.stored.specs.Reads.{reads, totalRead, RingRead, VectorRead}
-use Rattle.stored.specs.First.{firstOf, judged}
+use Rattle.stored.specs.First.{judged}
 use Rattle.stored.proofs.Exactly.{start, lines, many, stands-told, standing-valid}
 use Rattle.stored.proofs.Given.{reads-over, reads-other, reads-room, reads-done}
 use Rattle.stored.proofs.Judging.{line-there, first-is, opens-line}

@@ -1,21 +1,19 @@
 -- THERE AND BACK BY THE CONTRACTS (request 08): what a writer wrote, its reader reads back, every slot, head and length, with the total worked out whatever it was; and what a reader read, the
 -- writer writes again as it was. Only the generated contracts are used, and that a slot holds a number of 32 bits.
-use Prim.Native.Nat.{ℕ, zero, suc, _≤_, _<_}
+use Prim.Native.Nat.{ℕ, _≤_}
 use mathlib.Core.Path.{_≡_, refl, sym, ap, _∙_}
-use mathlib.Core.Bool.{Bool, true, false, not}
+use mathlib.Core.Bool.{true}
 use mathlib.Core.List.{List}
 use native.Mathlib.Omega.{arith}
 use borrow.Author.Tests.{ltb-false, not-false}
 use contract.Lifetimes.{Lfts}
 use lib.ListN.{length, take}
-use lib.Dec.{ltb}
 use denote.Ref.{now}
 use denote.Triple.Clauses.{AtExit}
 use borrow.Fn.World.{ArgsD, ResD}
 use Rattle.slots.specs.Layout.{Kind, ring, vector}
 use Rattle.slots.specs.Total.{total}
 use Rattle.table.specs.Tray.{Tray, cap, list, valid}
-use Rattle.table.specs.Table.{numberOf}
 use Rattle.table.specs.Does.{Outcome}
 use Rattle.table.proofs.Laws.Refusals.{either, above-zero}
 use Rattle.digits.specs.Put.{put}

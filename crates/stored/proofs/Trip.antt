@@ -1,9 +1,9 @@
 -- THERE AND BACK (request 08): reading what was written gives back the container with its total worked out, and writing what was read gives the same bytes, or an older text's with head 0. What
 -- the readers give is what `Reading` says, which names no reader, and nothing else is.
 use mathlib.Core.Path.{_≡_, refl, sym, ap, _∙_}
-use mathlib.Core.Bool.{Bool, true, false, not, cond}
+use mathlib.Core.Bool.{Bool, true, false}
 use mathlib.Core.List.{List}
-use Prim.Native.Nat.{ℕ, suc, _+_, _*_, _≤_, _<_}
+use Prim.Native.Nat.{ℕ, _≤_, _<_}
 use native.Mathlib.Omega.{arith}
 use borrow.Author.Tests.{le-ltb, ne-eqb, ltb-true, ltb-false, eqb-true, eqb-false}
 use lib.Dec.{ltb, eqb}
@@ -11,10 +11,10 @@ use lib.ListN.{length}
 use Rattle.slots.specs.Layout.{most, Kind, ring, vector}
 use Rattle.slots.specs.Total.{total}
 use Rattle.table.specs.Tray.{Tray, cap, list, valid, nowhere}
-use Rattle.table.specs.Does.{Outcome, refused, gives, bare}
+use Rattle.table.specs.Does.{Outcome, refused, bare}
 use Rattle.digits.specs.Put.{put}
 use Rattle.stored.specs.Form.{form, size}
-use Rattle.stored.specs.Written.{Written, writes}
+use Rattle.stored.specs.Written.{writes}
 use Rattle.stored.specs.Acceptable.{Sound, Older, StandsFor, written, older, Acceptable, Exact}
 use Rattle.stored.specs.Reading.{Reading}
 use Rattle.stored.specs.Judge.{told, judge, judgeBy}

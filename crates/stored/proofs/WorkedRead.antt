@@ -8,7 +8,7 @@ use Rattle.slots.specs.Layout.{ring, vector, slotOf, entries}
 use Rattle.slots.specs.Count.{one}
 use Rattle.slots.specs.Lists.{tabulate}
 use Rattle.slots.specs.Total.{total}
-use Rattle.table.specs.Tray.{Tray, valid, nowhere}
+use Rattle.table.specs.Tray.{valid, nowhere}
 use Rattle.table.specs.Does.{gives, refused, bare}
 use Rattle.table.specs.Ledger.{modelled, entered}
 use Rattle.table.specs.World.{Event, arrived, lines}

@@ -2,7 +2,6 @@
 use Prim.Native.Nat.{ℕ, _+_, _*_, _/_, _%_}
 use mathlib.Core.Bool.{Bool, _&&_}
 use mathlib.Core.List.{List}
-use lib.ListN.{length}
 use lib.Dec.{eqb}
 use Rattle.slots.specs.Layout.{Kind}
 use Rattle.lines.specs.Line.{lineAt, isNumber, numberIn}

@@ -25,7 +25,6 @@ use Rattle.stored.specs.Seen.{seenRing, seenVector, RingStored, VectorStored}
 use Rattle.stored.proofs.Writes.{refusing, telling}
 use Rattle.stored.proofs.Ours.{as-it-was}
 use Rattle.stored.specs.Reads.{reads, RingRead, VectorRead}
-use Rattle.stored.specs.Judge.{judgeBy}
 use Rattle.stored.proofs.Given.{reads-either}
 use Rattle.record.specs.declared.texts.Told.{Told}
 use Rattle.record.specs.Recorded.{judges, records, totalStarts, totalEnds, Records}

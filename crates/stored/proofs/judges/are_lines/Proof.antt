@@ -1,8 +1,7 @@
 -- `are_lines` meets its promise: whether the lines that are left are lines is always whether all are.
-use Prim.Native.Nat.{_+_, _*_, _≤_}
 use mathlib.Core.Path.{_≡_}
 use borrow.Author.Needs.{needs}
-use lib.ListN.{length, drop}
+use lib.ListN.{drop}
 use Rattle.stored.specs.Judge.{areLines}
 use Rattle.stored.proofs.Judging.{lines-turn, lines-stop, lines-end}
 use Rattle.stored.proofs.judges.are_lines.Statement.{statement}

@@ -1,5 +1,4 @@
 -- `home` meets its promise: an empty ring's head is 0.
-use borrow.Author.Needs.{needs}
 use Rattle.stored.proofs.Taking.{home-none, home-some}
 use Rattle.stored.proofs.readers.home.Statement.{statement}
 use Rattle.stored.proofs.readers.home.Tie as tie

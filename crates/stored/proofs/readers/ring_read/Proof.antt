@@ -1,6 +1,5 @@
 -- `ring_read` meets its promise: the refusals in their order, then the state, every slot and the total.
 use borrow.Author.Needs.{needs}
-use Rattle.slots.specs.Layout.{ring}
 use Rattle.stored.proofs.Taking.{lines-read, ring-over, ring-other, ring-room, len-fits, out-few, ring-head-fits, ring-done}
 use Rattle.stored.proofs.readers.ring_read.Statement.{statement}
 use Rattle.stored.proofs.readers.ring_read.Tie as tie

@@ -1,5 +1,5 @@
 -- `take_slots` meets its promise: the slots written, with what the lines left say, are always what all lines say.
-use Prim.Native.Nat.{_+_, _*_, _-_, _≤_}
+use Prim.Native.Nat.{_+_, _-_, _≤_}
 use mathlib.Core.Path.{_≡_}
 use mathlib.Core.Bool.{true}
 use mathlib.Core.List.{_++_}

@@ -1,6 +1,5 @@
 -- `vector_read` meets its promise: the refusals in their order, then the state, every slot and the total.
 use borrow.Author.Needs.{needs}
-use Rattle.slots.specs.Layout.{vector}
 use Rattle.stored.proofs.Taking.{lines-read, vector-over, vector-other, vector-room, len-fits, out-few, vector-done}
 use Rattle.stored.proofs.readers.vector_read.Statement.{statement}
 use Rattle.stored.proofs.readers.vector_read.Tie as tie

@@ -1,7 +1,7 @@
 // Measures the proved calls against Rust's own containers and against the same rules by hand, side by side in one run: each round times a batch on one
-// side and then the same batch on the next, and the rows are gone through several times. Then records, against other readers of them. Prints the ratios
-// and writes them, with what falls short and why, to a file. BENCH_ONLY=records measures records alone, BENCH_ONLY=allowances the calls with an allowance
-// beside the plain ones alone; either writes nothing.
+// side and then the same batch on the next, and the rows are gone through several times. Then stored texts that are read back, and records, against
+// other readers of them. Prints the ratios and writes them, with what falls short and why, to a file. BENCH_ONLY=records measures records alone,
+// BENCH_ONLY=stored the reading of stored texts, BENCH_ONLY=allowances the calls with an allowance beside the plain ones; each writes nothing.
 #[cfg(arrayvec)]
 mod array;
 mod check;
@@ -11,6 +11,7 @@ mod ours;
 mod place;
 mod records;
 mod rows;
+mod stored;
 mod texts;
 mod theirs;
 #[cfg(tinyvec)]
@@ -88,7 +89,8 @@ fn paper(rounds: usize, measured: &[(&str, &str)]) -> String {
         let given = format!("BENCH_{}", name.to_uppercase().replace('-', "_"));
         paper = paper.replace(&format!("{{{name}}}"), &std::env::var(given).unwrap_or_else(|_| "not said".into()));
     }
-    paper.replace("{rounds}", &(rounds * PASSES).to_string()).replace("{rounds of records}", &records::rounds_of(rounds).to_string())
+    let [of_stored, of_records] = [stored::rounds_of(rounds), records::rounds_of(rounds)].map(|n| n.to_string());
+    paper.replace("{rounds}", &(rounds * PASSES).to_string()).replace("{rounds of stored}", &of_stored).replace("{rounds of records}", &of_records)
 }
 
 fn main() {
@@ -96,11 +98,16 @@ fn main() {
     let rounds: usize = args.get(1).and_then(|a| a.parse().ok()).unwrap_or(201);
     match std::env::var("BENCH_ONLY").as_deref() {
         Ok("records") => return println!("{}", records::table(rounds)),
+        Ok("stored") => {
+            println!("by hand and ours agree on {}", stored::agree());
+            return println!("{}", stored::table(rounds));
+        }
         Ok("allowances") => return println!("{}", lines(&rows_of(rows::allowances(), rounds), |f| vec![f.line()])),
         _ => {}
     }
     let (done, refused) = check::agree();
-    println!("by hand and ours agree in {done} random calls that were done and {refused} that were refused");
+    let texts = stored::agree();
+    println!("by hand and ours agree in {done} random calls that were done and {refused} that were refused, and on {texts}");
     let [containers, allowances, vectors] = [rows::containers(), rows::allowances(), rows::vectors()].map(|rows| rows_of(rows, rounds));
     let table = lines(&containers, |f| vec![f.line()]);
     let limits = lines(&containers, |f| f.limit().into_iter().collect());
@@ -108,10 +115,12 @@ fn main() {
     let others = lines(&vectors, |f| vec![f.line()]);
     let short: Vec<String> = [&containers, &allowances, &vectors].into_iter().flatten().flat_map(Found::short).collect();
     println!("{table}\n\n{limits}\n\n{within}\n\n{others}\n");
+    let stored = stored::table(rounds);
+    println!("{stored}\n");
     let records = records::table(rounds);
     println!("{records}");
     let Some(file) = args.get(2) else { return };
     let (checked, refused) = ((done + refused).to_string(), refused.to_string());
-    let measured = [("{table}", &*table), ("{limits}", &*limits), ("{allowances}", &*within), ("{others}", &*others), ("{short}", &*short.join("\n")), ("{records}", &*records), ("{checked}", &*checked), ("{refused}", &*refused)];
+    let measured = [("{table}", &*table), ("{limits}", &*limits), ("{allowances}", &*within), ("{others}", &*others), ("{short}", &*short.join("\n")), ("{stored}", &*stored), ("{texts}", &*texts), ("{records}", &*records), ("{checked}", &*checked), ("{refused}", &*refused)];
     std::fs::write(file, paper(rounds, &measured)).expect("the paper cannot be written");
 }

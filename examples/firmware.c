@@ -21,6 +21,7 @@ static const char *name_of(uint8_t number)
     case TUM_NOT_EMPTY: return "TUM_NOT_EMPTY";
     case TUM_FULL: return "TUM_FULL";
     case TUM_OVER_ALLOWANCE: return "TUM_OVER_ALLOWANCE";
+    case TUM_NOT_ACCEPTABLE: return "TUM_NOT_ACCEPTABLE";
     default: return "another number";
     }
 }
@@ -111,6 +112,34 @@ static void work_in_ticks(void)
     show_worklist("remove_within 0", tumring_remove_within(&worklist, 0, left));
 }
 
+/* The check only looks, so it can be asked before there are slots to lend; the reading comes to the same. */
+static void read_back(size_t size)
+{
+    int yes = tumstored_check(text, size, TUM_KIND_RING);
+    printf("\nthe stored text, %lu bytes: %s\n", (unsigned long)size, yes ? "acceptable for a ring" : "not acceptable for a ring");
+    puts("read back           answer             value moves  lamp  total");
+    show_worklist("text_read", tumring_text_read(&worklist, tray, TRAY, text, size));
+}
+
+/* The worklist is stored before the power goes. After the restart the slots hold anything, and all there is of it is the text; the total is not in it
+   and is worked out. Then one bit of the text is damaged: the refused reading leaves an empty worklist, and the slots as they were. */
+static void restart(void)
+{
+    size_t size = tumring_text(&worklist, text, sizeof text).value, k;
+    for (k = 0; k < TRAY; k++)
+        tray[k] = 0xffffffffu;
+    read_back(size);
+    show_worklist("push_front 35", tumring_push_front(&worklist, 35));
+    show_worklist("pop_back", tumring_pop_back(&worklist));
+    text[30] ^= 0x40;
+    read_back(size);
+    show_worklist("len", tumring_len(&worklist));
+    printf("in the slots:");
+    for (k = 0; k < TRAY; k++)
+        printf(" %lu", (unsigned long)tray[k]);
+    puts("");
+}
+
 int main(void)
 {
     fill_worklist();
@@ -121,5 +150,6 @@ int main(void)
     print_stored("the worklist", tumring_text(&worklist, text, sizeof text));
     print_stored("the pick list", tumvec_text(&picks, text, sizeof text));
     work_in_ticks();
+    restart();
     return 0;
 }

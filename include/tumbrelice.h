@@ -26,25 +26,32 @@
 extern "C" {
 #endif
 
-/* The number of an answer. Where several apply the lowest is answered; the calls on a record have an order of their own, which stands with them.
-   (7 and 8 are those of the program tray; no call answers them.) */
+/* The number of an answer. Where several apply the lowest is answered; the readings of a stored text and the calls on a record have an order of their
+   own, which stands with them. (7 and 8 are those of the program tray; no call answers them, nor 13.) */
 enum {
-    TUM_DONE = 0,           /* done */
-    TUM_INVALID = 1,        /* the state does not fit its slots, there are more than 4,096 of them, or an empty ring's head is not 0 */
-    TUM_INVALID_SECOND = 2, /* the same of the second container */
-    TUM_NO_POSITION = 3,    /* the list has no such position, range or cursor; a start and an end that are not in the text */
-    TUM_EMPTY = 4,          /* nothing is in it, or the cursor has ended */
-    TUM_NOT_EMPTY = 5,      /* the second container is not empty; of a record, one of the two */
-    TUM_FULL = 6,           /* no room: too few free slots, or bytes */
-    TUM_STRAY_BYTE = 9,     /* no record: outside quotes stands a byte that may not stand there */
-    TUM_OPEN_QUOTE = 10,    /* no record: a quote is never closed */
-    TUM_LONG_TEXT = 11,     /* a text of more than 65,535 bytes */
-    TUM_OVER_ALLOWANCE = 12 /* it would be done, but with more moves than the allowance */
+    TUM_DONE = 0,            /* done */
+    TUM_INVALID = 1,         /* the state does not fit its slots, there are more than 4,096 of them, or an empty ring's head is not 0 */
+    TUM_INVALID_SECOND = 2,  /* the same of the second container */
+    TUM_NO_POSITION = 3,     /* the list has no such position, range or cursor; a start and an end that are not in the text */
+    TUM_EMPTY = 4,           /* nothing is in it, or the cursor has ended */
+    TUM_NOT_EMPTY = 5,       /* the second container is not empty; of a record, one of the two */
+    TUM_FULL = 6,            /* no room: too few free slots, or bytes; of a stored text that is read, another number of slots than its own */
+    TUM_STRAY_BYTE = 9,      /* no record: outside quotes stands a byte that may not stand there */
+    TUM_OPEN_QUOTE = 10,     /* no record: a quote is never closed */
+    TUM_LONG_TEXT = 11,      /* a text of more than 65,535 bytes */
+    TUM_OVER_ALLOWANCE = 12, /* it would be done, but with more moves than the allowance */
+    TUM_NOT_ACCEPTABLE = 14  /* no stored text of this kind */
 };
 
 enum {
     TUM_MOST_SLOTS = 4096, /* a container's */
     TUM_NO_SLOT = 65535    /* the slot of an answer that reports none */
+};
+
+/* The kind of a stored text. */
+enum {
+    TUM_KIND_RING = 0,
+    TUM_KIND_VECTOR = 1
 };
 
 /* The bytes of a stored text. */
@@ -87,7 +94,7 @@ typedef struct tum_part {
 
    The inline functions after these call them, each one once, and are what you use: there each call has its line. A run of slots goes in as a pointer
    and their number, a state by its numbers. The answer is one word: the value in the low 32 bits, the slot in the next 16, the moves in the next 12,
-   the number in the high 4. A part's word has the first slot in the low 32 bits, the count in the high 32. */
+   the number in the high 4. A part's word has the first slot in the low 32 bits, the count in the high 32. tum_stored_check answers 1 or 0. */
 
 uint64_t tum_ring_new(const uint32_t *slots, size_t count, uint64_t state[3]);
 uint64_t tum_ring_with_capacity(const uint32_t *slots, size_t count, uint64_t state[3], size_t k);
@@ -165,6 +172,9 @@ uint64_t tum_vector_from_iter(const uint32_t *slots, size_t count, const uint64_
 
 uint64_t tum_ring_text(const uint32_t *slots, size_t count, const uint64_t state[3], uint8_t *text, size_t room);
 uint64_t tum_vector_text(const uint32_t *slots, size_t count, const uint64_t state[2], uint8_t *text, size_t room);
+uint64_t tum_ring_text_read(uint32_t *slots, size_t count, uint64_t state[3], const uint8_t *text, size_t size);
+uint64_t tum_vector_text_read(uint32_t *slots, size_t count, uint64_t state[2], const uint8_t *text, size_t size);
+uint64_t tum_stored_check(const uint8_t *text, size_t size, uint64_t kind);
 
 uint64_t tum_record_read(const uint8_t *text, size_t size, uint32_t *slots, size_t count, uint64_t state[2],
                          uint32_t *theirs, size_t room, uint64_t other[2]);
@@ -648,6 +658,34 @@ static inline tum_answer tumring_text(const tum_ring *ring, uint8_t *text, size_
 static inline tum_answer tumvec_text(const tum_vector *v, uint8_t *text, size_t room)
 {
     return tum_answer_of(tum_vector_text(v->slots, v->capacity, v->state, text, room));
+}
+
+/* A stored text read back: makings, so the struct takes the slots and their number, whether refused or not. Lend exactly as many slots as the container
+   had that was stored; its text has TUM_TEXT_BYTES(c) bytes. A text is acceptable for a kind if it is, byte for byte, what one of the two calls above
+   writes for some valid container of that kind. So is an older one, of an empty ring with another head below c: it is read as head 0. Nothing is
+   stored before the whole text is judged. But a digit that was damaged into another digit may well be acceptable: a text bears no check sum. */
+
+/* 1 if the text is acceptable for a kind, TUM_KIND_RING or TUM_KIND_VECTOR; else 0, and for any other kind. It has no number: nothing is refused. */
+static inline int tumstored_check(const uint8_t *text, size_t size, uint64_t kind)
+{
+    return tum_stored_check(text, size, kind) == 1;
+}
+
+/* The ring of the text: every slot as it has it, free ones too, and the total worked out. Refused: TUM_INVALID if there are more than 4,096 slots;
+   TUM_NOT_ACCEPTABLE if the text is not acceptable for a ring; TUM_FULL if there are not exactly as many slots as it has. No slot changes then. */
+static inline tum_answer tumring_text_read(tum_ring *ring, uint32_t *slots, size_t capacity, const uint8_t *text, size_t size)
+{
+    ring->slots = slots;
+    ring->capacity = capacity;
+    return tum_answer_of(tum_ring_text_read(slots, capacity, ring->state, text, size));
+}
+
+/* The vector of the text, in the same way. Refused: the same. */
+static inline tum_answer tumvec_text_read(tum_vector *v, uint32_t *slots, size_t capacity, const uint8_t *text, size_t size)
+{
+    v->slots = slots;
+    v->capacity = capacity;
+    return tum_answer_of(tum_vector_text_read(slots, capacity, v->state, text, size));
 }
 
 /* A record of comma-separated text, at the start of a text of at most 65,535 bytes. Places in it are counted in bytes, from 0; a field goes from its

@@ -2,9 +2,11 @@
 // inlined, and this crate is compiled apart from the one that calls it.
 #![forbid(unsafe_code)]
 mod ring;
+mod stored;
 mod vector;
 
 pub use ring::{Cursor, Ring};
+pub use stored::stored_check;
 pub use vector::Vector;
 
 const MOST: usize = 4096; // slots

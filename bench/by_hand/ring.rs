@@ -41,7 +41,7 @@ impl<'a> Ring<'a> {
         if count <= gap { (start..start + count, 0..0) } else { (start..start + gap, 0..count - gap) }
     }
 
-    fn as_slices(&self) -> (&[u32], &[u32]) {
+    pub(crate) fn as_slices(&self) -> (&[u32], &[u32]) {
         let (first, second) = self.runs(0, self.len);
         (&self.slots[first], &self.slots[second])
     }

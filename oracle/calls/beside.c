@@ -93,6 +93,7 @@ void names(void)
 {
     uint32_t slots[1] = {0}, more[1] = {0};
     tum_ring r, t;
+    tum_vector v;
     MUST(tumring_new(&r, slots, 1).number == TUM_DONE);
     MUST(tumring_new(&t, more, 1).slot == TUM_NO_SLOT);
     MUST(tumring_pop_front(&r).number == TUM_EMPTY);
@@ -103,6 +104,13 @@ void names(void)
     MUST(tumring_clone(&r, &t).number == TUM_NOT_EMPTY);
     MUST(tumring_text(&r, text, TUM_TEXT_BYTES(1)).value == TUM_TEXT_BYTES(1));
     MUST(tumring_text(&r, text, TUM_TEXT_BYTES(1) - 1).number == TUM_FULL);
+    MUST(tumstored_check(text, TUM_TEXT_BYTES(1), TUM_KIND_RING) == 1);
+    MUST(tumstored_check(text, TUM_TEXT_BYTES(1), TUM_KIND_VECTOR) == 0);
+    MUST(tumring_text_read(&t, more, 1, text, TUM_TEXT_BYTES(1)).number == TUM_DONE);
+    MUST(tumring_total(&t) == 5);
+    MUST(tumring_text_read(&t, more, 0, text, TUM_TEXT_BYTES(1)).number == TUM_FULL);
+    MUST(tumvec_text_read(&v, more, 1, text, TUM_TEXT_BYTES(1)).number == TUM_NOT_ACCEPTABLE);
+    MUST(tumring_new(&t, more, 1).number == TUM_DONE);
     t.state[0] = 1;
     MUST(tumring_same(&r, &t).number == TUM_INVALID_SECOND);
     MUST(tumring_same(&t, &r).number == TUM_INVALID);

@@ -12,7 +12,7 @@ side first, second;
 tum_cursor cursor;
 uint64_t chance;
 int silent;
-static char said[(2 * MOST + CALLS * 3 + 8) * LINE + 1]; /* the lines since a desk was placed */
+static char said[(2 * MOST + TEXT + CALLS * 1000 + 8) * LINE + 1]; /* the lines since a desk was placed */
 static size_t said_size;
 
 /* Xorshift, so that a seed gives the same calls on every machine. */

@@ -4,6 +4,7 @@
 #include <string.h>
 
 uint8_t text[TEXT + BEHIND];
+size_t text_size;
 uint32_t lent[MOST];
 size_t lent_count;
 uint8_t lent_number;
@@ -191,6 +192,19 @@ static tum_answer call_within(unsigned code, tum_ring *r, size_t a, uint32_t x)
     return code == 0x90 ? tumring_insert_within(r, a, x, cursor.at[0]) : tumring_remove_within(r, a, cursor.at[0]);
 }
 
+/* A check bears no number either: its yes or no is the value. */
+static tum_answer call_text(unsigned code, tum_ring *r, tum_vector *v, size_t a)
+{
+    tum_answer did = {0, TUM_NO_SLOT, 0, TUM_DONE};
+    switch (code) {
+    case 0x80: return tumring_text(r, text, a);
+    case 0x81: return tumvec_text(v, text, a);
+    case 0x82: return tumring_text_read(r, first.slots, first.capacity, text, text_size);
+    case 0x83: return tumvec_text_read(v, first.slots, first.capacity, text, text_size);
+    default: did.value = (uint32_t)tumstored_check(text, text_size, a); return did;
+    }
+}
+
 tum_answer call(unsigned code, size_t a, size_t b)
 {
     tum_ring r = ring_of(&first);
@@ -198,8 +212,10 @@ tum_answer call(unsigned code, size_t a, size_t b)
     tum_answer did;
     int as_ring = 0;
     lent_count = 0;
-    if (code == 0x80 || code == 0x81)
+    if (code == 0x80 || code == 0x81) {
         memset(text, '-', a + BEHIND);
+        text_size = a;
+    }
     switch (code >> 4) {
     case 1: as_ring = 1, did = call_ring(code, &r, a, (uint32_t)(b & UINT32_MAX)); break;
     case 2: did = call_vector(code, &v, a, b); break;
@@ -209,7 +225,7 @@ tum_answer call(unsigned code, size_t a, size_t b)
     case 6: as_ring = 1, did = walk_ring(code, &r, a); break;
     case 7: did = walk_vector(code, &v, a); break;
     case 9: as_ring = 1, did = call_within(code, &r, a, (uint32_t)(b & UINT32_MAX)); break;
-    default: as_ring = code == 0x80, did = as_ring ? tumring_text(&r, text, a) : tumvec_text(&v, text, a); break;
+    default: as_ring = code % 2 == 0, did = call_text(code, &r, &v, a); break; /* 84 is on no container: all of the first stays, its head too */
     }
     if (as_ring)
         ring_left(&first, &r);

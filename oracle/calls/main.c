@@ -12,11 +12,11 @@
 #include <stdlib.h>
 #include <string.h>
 
-enum { LARGE = 240 /* one call in so many is made on a large desk of its own, each kind in turn */, ON_RECORD = 20 /* one text in so many calls */ };
+enum { LARGE = 230 /* one call in so many is made on a large desk of its own, each kind in turn */, ON_RECORD = 20 /* one text in so many calls */ };
 
-/* The numbers of a call: a position, one from the cursor on, a number of slots, an entry, two of these, a range, how many of the second's slots, or
-   how many bytes. The allowance of 90 and 91 stands in the cursor. */
-typedef enum needs { NOTHING, POSITION, AHEAD, COUNT, ENTRY, POSITION_ENTRY, COUNT_ENTRY, RANGE, SLICE, BYTES } needs;
+/* The numbers of a call: a position, one from the cursor on, a number of slots, an entry, two of these, a range, how many of the second's slots, how
+   many bytes, none but a text on the desk, or that and a kind. The allowance of 90 and 91 stands in the cursor. */
+typedef enum needs { NOTHING, POSITION, AHEAD, COUNT, ENTRY, POSITION_ENTRY, COUNT_ENTRY, RANGE, SLICE, BYTES, STORED, STORED_KIND } needs;
 
 typedef struct kind {
     unsigned code; /* replay's */
@@ -44,11 +44,12 @@ static const kind kinds[] = {
     {0x65, "tumring_peek_back", AHEAD}, {0x66, "tumring_from_iter", NOTHING}, {0x70, "tumvec_iter", NOTHING}, {0x71, "tumvec_into_iter", NOTHING},
     {0x72, "tumvec_step_front", NOTHING}, {0x73, "tumvec_step_back", NOTHING}, {0x74, "tumvec_peek_front", AHEAD},
     {0x75, "tumvec_peek_back", AHEAD}, {0x76, "tumvec_from_iter", NOTHING}, {0x80, "tumring_text", BYTES}, {0x81, "tumvec_text", BYTES},
+    {0x82, "tumring_text_read", STORED}, {0x83, "tumvec_text_read", STORED}, {0x84, "tumstored_check", STORED_KIND},
     {0x90, "tumring_insert_within", POSITION_ENTRY}, {0x91, "tumring_remove_within", POSITION},
 };
 enum { KINDS = sizeof kinds / sizeof kinds[0] };
-static unsigned long met[KINDS][2]; /* done, refused */
-static unsigned long within[2][16]; /* of 90 and 91, each number */
+static unsigned long met[KINDS][2];   /* done, refused; of the check yes, no */
+static unsigned long numbered[4][16]; /* of 90 and 91, 82 and 83, each number */
 
 static int comparing;
 static char ours[120000], theirs[sizeof ours];
@@ -162,6 +163,17 @@ static uint64_t some_bytes(void)
     }
 }
 
+/* A kind, or a number that is none: one of them is a kind in its low 32 bits, another in its low 8. */
+static uint64_t some_kind(void)
+{
+    switch (below(10)) {
+    case 0: return wide();
+    case 1: return 2 + below(3);
+    case 2: return 256 + below(2);
+    default: return below(2);
+    }
+}
+
 /* About what the plain call would move, where it would be done, or any. replay takes it from the cursor's front. */
 static void place_allowance(unsigned code, uint64_t i)
 {
@@ -188,15 +200,19 @@ static void make(size_t which)
     case RANGE: a = some_position(), b = some_position(); break;
     case SLICE: a = below(second.capacity + 1); break;
     case BYTES: a = some_bytes(); break;
+    case STORED: break;
+    case STORED_KIND: a = some_kind(); break;
     }
     if (of.code >= 0x90)
         place_allowance(of.code, a);
+    if (of.needs == STORED || of.needs == STORED_KIND)
+        place_text(of.needs == STORED ? of.code % 2 : a % 2);
     line(of.code, a, b);
     did = call(of.code, (size_t)a, (size_t)b);
     number = of.code >= 0x38 && of.code <= 0x3d ? lent_number : did.number;
-    met[which][number != TUM_DONE]++;
-    if (of.code >= 0x90)
-        within[of.code - 0x90][number]++;
+    met[which][of.needs == STORED_KIND ? did.value == 0 : number != TUM_DONE]++;
+    if (of.code >= 0x90 || of.needs == STORED)
+        numbered[of.code % 16][number]++;
     look_behind(&first);
     look_behind(&second);
     if (of.needs == BYTES && (text[a] != '-' || text[a + 1] != '-'))
@@ -234,18 +250,19 @@ static void run(uint64_t count)
 
 /* ---- How many of each kind ---- */
 
-/* Whether it was never done, or never refused. */
-static int never(const char *name, const unsigned long *times, size_t column)
+/* Whether it was never done, or never refused; of the check, never a yes, or never a no. */
+static int never(const char *name, int check, const unsigned long *times, size_t column)
 {
-    printf("%-25s%6lu done, %5lu refused%s", name, times[0], times[1], column == 2 ? "\n" : "   ");
+    const char *one = check ? "yes" : "done", *other = check ? "no" : "refused";
+    printf("%-25s%6lu %s, %5lu %s%s", name, times[0], one, times[1], other, column == 2 ? "\n" : "   ");
     if (times[0] > 0 && times[1] > 0)
         return 0;
-    fprintf(stderr, "oracle/calls: %s was never %s\n", name, times[0] == 0 ? "done" : "refused");
+    fprintf(stderr, "oracle/calls: %s was never %s\n", name, times[0] == 0 ? one : other);
     return 1;
 }
 
-/* Whether a call with an allowance was never answered one of its numbers, those of the plain call or 12. */
-static int never_within(const char *name, const unsigned long *times, const uint8_t *numbers, size_t count)
+/* Whether a call was never answered one of its numbers. */
+static int never_numbered(const char *name, const unsigned long *times, const uint8_t *numbers, size_t count)
 {
     size_t k;
     int wrong = 0;
@@ -265,16 +282,19 @@ static int report(void)
 {
     static const uint8_t of_insert[] = {TUM_DONE, TUM_INVALID, TUM_NO_POSITION, TUM_FULL, TUM_OVER_ALLOWANCE};
     static const uint8_t of_remove[] = {TUM_DONE, TUM_INVALID, TUM_NO_POSITION, TUM_OVER_ALLOWANCE};
+    static const uint8_t of_reading[] = {TUM_DONE, TUM_INVALID, TUM_NOT_ACCEPTABLE, TUM_FULL};
     size_t k;
     int wrong = 0;
     for (k = 0; k < KINDS; k++)
-        wrong |= never(kinds[k].name, met[k], k % 3);
+        wrong |= never(kinds[k].name, kinds[k].needs == STORED_KIND, met[k], k % 3);
     for (k = 0; k < RECORD_KINDS; k++)
-        wrong |= never(record_names[k], record_met[k], (KINDS + k) % 3);
+        wrong |= never(record_names[k], 0, record_met[k], (KINDS + k) % 3);
     if ((KINDS + RECORD_KINDS) % 3 != 0)
         puts("");
-    wrong |= never_within("tumring_insert_within", within[0], of_insert, sizeof of_insert);
-    wrong |= never_within("tumring_remove_within", within[1], of_remove, sizeof of_remove);
+    wrong |= never_numbered("tumring_insert_within", numbered[0], of_insert, sizeof of_insert);
+    wrong |= never_numbered("tumring_remove_within", numbered[1], of_remove, sizeof of_remove);
+    wrong |= never_numbered("tumring_text_read", numbered[2], of_reading, sizeof of_reading);
+    wrong |= never_numbered("tumvec_text_read", numbered[3], of_reading, sizeof of_reading);
     return wrong;
 }
 

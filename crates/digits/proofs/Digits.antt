@@ -6,13 +6,12 @@ use Prim.Native.Nat.{ℕ, zero, suc, _+_, _-_, _*_, _/_, _%_, _^_, _≤_, _<_}
 use native.Mathlib.Nat.{pow-suc, pow-le-pow-right, not-suc-le-zero, le-of-suc-le-suc, mod-eq-of-lt}
 use native.Mathlib.Numerals.{add-one}
 use native.Mathlib.Omega.{arith}
-use borrow.Author.Tests.{leb-true, ltb-true, ltb-false, not-true, not-false, le-leb, lt-leb}
+use borrow.Author.Tests.{leb-true, leb-false, ltb-true, ltb-false, not-true, not-false, le-leb, lt-leb}
 use lib.Dec.{leb, ltb}
 use lib.ListN.{length, getD, drop, drop-of-length-le}
 use lib.Seq.{drop-cons}
 use Rattle.digits.specs.Hex.{isDigit, areDigits, worth, saysFrom, says, numberIn}
-use Rattle.digits.specs.declared.Said.{Said}
-use Rattle.digits.specs.Spelling.{spelled, Weighs}
+use Rattle.digits.specs.Low.{lowOf, lowsFrom, lowIn}
 
 -- what is left from i on: one byte, and what is left from i + 1 on
 left : (s : List ℕ) (i : ℕ) → i < length s → drop i s ≡ getD s i 0 ∷ drop (i + 1) s
@@ -24,20 +23,6 @@ none-left s i h = drop-of-length-le s {i = i} h
 -- what the code's test of a byte tells
 pub is-digit : (b : ℕ) (d : Bool) → d ≡ not (isDigit b) → d ≡ false → isDigit b ≡ true
 is-digit b d e good = not-false _ (sym e ∙ good)
-
--- of a loop that tests byte after byte: it goes on, stops at a byte that is no digit, or ends
-pub digits-turn : (s : List ℕ) (i : ℕ) (v d : Bool) → areDigits (drop i s) ≡ v → i < length s → d ≡ not (isDigit (getD s i 0)) → d ≡ false
-    → areDigits (drop (i + 1) s) ≡ v
-digits-turn s i v d is h e good =
-    sym (ap areDigits (left s i h) ∙ rw (is-digit (getD s i 0) d e good) refl) ∙ is
-
-pub digits-stop : (s : List ℕ) (i : ℕ) (v d : Bool) → areDigits (drop i s) ≡ v → i < length s → d ≡ not (isDigit (getD s i 0)) → d ≡ true → false ≡ v
-digits-stop s i v d is h e bad =
-    let no : isDigit (getD s i 0) ≡ false = not-true _ (sym e ∙ bad) in
-    sym (ap areDigits (left s i h) ∙ rw no refl) ∙ is
-
-pub digits-end : (s : List ℕ) (i : ℕ) (v : Bool) → areDigits (drop i s) ≡ v → length s ≤ i → true ≡ v
-digits-end s i v is h = sym (ap areDigits (none-left s i h)) ∙ is
 
 -- the two halves of a test that holds
 pub and-left : (a b : Bool) → a && b ≡ true → a ≡ true
@@ -66,11 +51,44 @@ range b e = go (leb 48 b && ltb b 58) refl e
       high = λ h. (leb-true 97 b (and-left _ _ q), ltb-true b 103 (and-right (leb 97 b) _ q));
     }
 
--- what a digit says, by its low bits
-pub weighs : (b : ℕ) → Weighs b ((b % 16 + 9 * (b / 64)) % 16)
-weighs b = record { below = omega arith; said = λ e. go (ltb b 58) refl (range b e) }
+-- of a loop that tests all bytes: whether one was no digit, with those that are left, is always whether one of all is
+pub bad-turn : (s : List ℕ) (i : ℕ) (v bad d : Bool) → bad || not (areDigits (drop i s)) ≡ v → i < length s → d ≡ not (isDigit (getD s i 0))
+    → (bad || d) || not (areDigits (drop (i + 1) s)) ≡ v
+bad-turn s i v bad d is h e = rw e (go bad (isDigit (getD s i 0)) (areDigits (drop (i + 1) s))) ∙ sym (ap (λ l. bad || not (areDigits l)) (left s i h)) ∙ is
   where
-    go : (low : Bool) → ltb b 58 ≡ low → Range b → (b % 16 + 9 * (b / 64)) % 16 ≡ worth b
+    go : (a b c : Bool) → (a || not b) || not c ≡ a || not (b && c)
+    go true b c = refl
+    go false true c = refl
+    go false false c = refl
+
+pub bad-end : (s : List ℕ) (i : ℕ) (bad : Bool) → bad || not (areDigits (drop i s)) ≡ not (areDigits s) → length s ≤ i → not bad ≡ areDigits s
+bad-end s i bad is h = ap not (go bad ∙ sym (ap (λ l. bad || not (areDigits l)) (none-left s i h)) ∙ is) ∙ twice (areDigits s)
+  where
+    go : (b : Bool) → b ≡ b || false
+    go true = refl
+    go false = refl
+
+    twice : (b : Bool) → not (not b) ≡ b
+    twice true = refl
+    twice false = refl
+
+-- of a loop that reads low bits, byte after byte: x is what was read
+pub low-turn : (s : List ℕ) (i x w v : ℕ) → lowsFrom x (drop i s) ≡ v → i < length s → w ≡ lowOf (getD s i 0) → lowsFrom (x * 16 + w) (drop (i + 1) s) ≡ v
+low-turn s i x w v is h e = rw e (sym (ap (lowsFrom x) (left s i h))) ∙ is
+
+pub low-end : (s : List ℕ) (i x : ℕ) → lowsFrom x (drop i s) ≡ lowsFrom 0 s → length s ≤ i → length s ≤ 16 → x ≡ lowIn s
+unfolding lowIn
+low-end s i x is h few = rw (le-leb _ _ few) (sym (ap (lowsFrom x) (none-left s i h)) ∙ is)
+
+pub low-many : (s : List ℕ) → 16 < length s → 0 ≡ lowIn s
+unfolding lowIn
+low-many s many = rw (lt-leb _ _ many)
+
+-- of digits they say the number
+low-digit : (b : ℕ) → isDigit b ≡ true → lowOf b ≡ worth b
+low-digit b e = go (ltb b 58) refl (range b e)
+  where
+    go : (low : Bool) → ltb b 58 ≡ low → Range b → lowOf b ≡ worth b
     go true p r =
         let lt = ltb-true b 58 p in
         let from = r .low lt in
@@ -90,70 +108,38 @@ weighs b = record { below = omega arith; said = λ e. go (ltb b 58) refl (range 
         let small : b - 87 < 16 = omega arith in
         ap (λ n. n % 16) low ∙ mod-eq-of-lt small ∙ sym w
 
--- of a loop that reads digit after digit: x is what was read
-pub says-turn : (s : List ℕ) (i x w v : ℕ) → saysFrom x (drop i s) ≡ v → i < length s → w ≡ worth (getD s i 0) → saysFrom (x * 16 + w) (drop (i + 1) s) ≡ v
-says-turn s i x w v is h e = rw e (sym (ap (saysFrom x) (left s i h))) ∙ is
+lows-say : (x : ℕ) (s : List ℕ) → areDigits s ≡ true → lowsFrom x s ≡ saysFrom x s
+lows-say x [] e = refl
+lows-say x (b ∷ s) e =
+    ap (λ w. lowsFrom (x * 16 + w) s) (low-digit b (and-left _ _ e)) ∙ lows-say (x * 16 + worth b) s (and-right (isDigit b) _ e)
 
-pub says-end : (s : List ℕ) (i x v : ℕ) → saysFrom x (drop i s) ≡ v → length s ≤ i → x ≡ v
-says-end s i x v is h = sym (ap (saysFrom x) (none-left s i h)) ∙ is
-
--- OF A LOOP THAT READS ALL BYTES, whatever they are: whether one was no digit, with those that are left, is always whether one of all is
-pub bad-turn : (s : List ℕ) (i : ℕ) (v bad d : Bool) → bad || not (areDigits (drop i s)) ≡ v → i < length s → d ≡ not (isDigit (getD s i 0))
-    → (bad || d) || not (areDigits (drop (i + 1) s)) ≡ v
-bad-turn s i v bad d is h e = rw e (go bad (isDigit (getD s i 0)) (areDigits (drop (i + 1) s))) ∙ sym (ap (λ l. bad || not (areDigits l)) (left s i h)) ∙ is
-  where
-    go : (a b c : Bool) → (a || not b) || not c ≡ a || not (b && c)
-    go true b c = refl
-    go false true c = refl
-    go false false c = refl
-
-pub bad-end : (s : List ℕ) (i : ℕ) (v bad : Bool) → bad || not (areDigits (drop i s)) ≡ v → length s ≤ i → bad ≡ v
-bad-end s i v bad is h = go bad ∙ sym (ap (λ l. bad || not (areDigits l)) (none-left s i h)) ∙ is
-  where
-    go : (b : Bool) → b ≡ b || false
-    go true = refl
-    go false = refl
-
--- of digits, what was read with what is left always says the whole
-pub record Sofar (s : List ℕ) (i x : ℕ) : Type 0 where
-  pub whole : areDigits s ≡ true → saysFrom x (drop i s) ≡ says s
-
-digit-at : (s : List ℕ) (i : ℕ) → areDigits s ≡ true → i < length s → isDigit (getD s i 0) ≡ true
-digit-at [] i e h = absurd (not-suc-le-zero h)
-digit-at (b ∷ s) zero e h = and-left _ _ e
-digit-at (b ∷ s) (suc i) e h = digit-at s i (and-right (isDigit b) _ e) (le-of-suc-le-suc h)
-
-pub sofar-none : (s : List ℕ) → Sofar s 0 0
-sofar-none s = record { whole = λ all. refl }
-
-pub sofar-turn : (s : List ℕ) (i x w : ℕ) → Sofar s i x → i < length s → Weighs (getD s i 0) w → Sofar s (i + 1) (x * 16 + w)
-sofar-turn s i x w so h is = record { whole = λ all. says-turn s i x w _ (so .whole all) h (is .said (digit-at s i all h)) }
-
--- so it is a number, or none
-pub spelled-number : (s : List ℕ) (r : Said) → r ≡ spelled s → r .number ≡ numberIn s
-unfolding spelled
-spelled-number s r e = ap (λ (r : Said). r .number) e
-
-pub spelled-many : (s : List ℕ) → 16 < length s → record { is = false; number = 0 } ≡ spelled s
-unfolding spelled numberIn
-spelled-many s h = rw (lt-leb _ _ h)
-
-pub spelled-not : (s : List ℕ) (bad : Bool) → length s ≤ 16 → bad ≡ not (areDigits s) → bad ≡ true → record { is = false; number = 0 } ≡ spelled s
-unfolding spelled numberIn
-spelled-not s bad few e t = let other : areDigits s ≡ false = not-true _ (sym e ∙ t) in rw (le-leb _ _ few, other)
-
-pub spelled-is : (s : List ℕ) (i x : ℕ) (bad : Bool) → length s ≤ 16 → bad ≡ not (areDigits s) → bad ≡ false → Sofar s i x → length s ≤ i
-    → record { is = true; number = x } ≡ spelled s
-unfolding spelled numberIn
-spelled-is s i x bad few e f so all =
-    let digits : areDigits s ≡ true = not-false _ (sym e ∙ f) in
-    let said : x ≡ says s = says-end s i x _ (so .whole digits) all in
-    rw (le-leb _ _ few, digits, said)
+pub low-says : (s : List ℕ) → areDigits s ≡ true → length s ≤ 16 → lowIn s ≡ says s
+unfolding lowIn
+low-says s e few = rw (le-leb _ _ few) (lows-say 0 s e)
 
 -- the number of a part: what its digits say, or 0
 pub number-says : (s : List ℕ) (x : ℕ) → length s ≤ 16 → true ≡ areDigits s → x ≡ says s → x ≡ numberIn s
 unfolding numberIn
 number-says s x short all e = rw (le-leb _ _ short, ← all) e
+
+pub number-low : (s : List ℕ) (d : Bool) (x : ℕ) → d ≡ areDigits s → d ≡ true → x ≡ lowIn s → x ≡ numberIn s
+unfolding numberIn
+number-low s d x e t ex = go (leb (length s) 16) refl
+  where
+    digits : areDigits s ≡ true
+    digits = sym e ∙ t
+
+    go : (b : Bool) → leb (length s) 16 ≡ b → x ≡ numberIn s
+    go true p = ex ∙ low-says s digits (leb-true _ _ p) ∙ sym (rw (p, digits))
+    go false p = ex ∙ sym (low-many s (leb-false _ _ p)) ∙ sym (rw p)
+
+pub number-none : (s : List ℕ) (d : Bool) → d ≡ areDigits s → d ≡ false → 0 ≡ numberIn s
+unfolding numberIn
+number-none s d e f = let other : areDigits s ≡ false = sym e ∙ f in rw (other, and-false (leb (length s) 16))
+  where
+    and-false : (b : Bool) → b && false ≡ false
+    and-false true = refl
+    and-false false = refl
 
 -- i digits say less than 16 to the i
 pub grows : (i x w : ℕ) → x < 16 ^ i → w < 16 → x * 16 + w < 16 ^ (i + 1)

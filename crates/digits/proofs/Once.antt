@@ -9,8 +9,8 @@ use Rattle.digits.proofs.put_hex as put-hex·fn
 use Rattle.digits.proofs.put_hex.Reads as put-hex·reads
 use Rattle.digits.proofs.are_digits as are-digits·fn
 use Rattle.digits.proofs.are_digits.Reads as are-digits·reads
-use Rattle.digits.proofs.spelled as spelled·fn
-use Rattle.digits.proofs.spelled.Reads as spelled·reads
+use Rattle.digits.proofs.low as low·fn
+use Rattle.digits.proofs.low.Reads as low·reads
 use Rattle.digits.proofs.number as number·fn
 use Rattle.digits.proofs.number.Reads as number·reads
 
@@ -28,6 +28,6 @@ module _ (κs : Lfts 1) where
       → number·reads.Learnt κs a r e → number·reads.Learnt κs a r′ e′ → r ≡ r′
   number-once a r r′ e e′ p q = p .0 ∙ sym (q .0)
 
-  pub spelled-once : (a : ArgsD spelled·fn.signature κs) (r r′ : ResD spelled·fn.signature κs) (e e′ : AtExit spelled·fn.ended κs)
-      → spelled·reads.Learnt κs a r e → spelled·reads.Learnt κs a r′ e′ → r ≡ r′
-  spelled-once a r r′ e e′ p q = p .0 ∙ sym (q .0)
+  pub low-once : (a : ArgsD low·fn.signature κs) (r r′ : ResD low·fn.signature κs) (e e′ : AtExit low·fn.ended κs)
+      → low·reads.Learnt κs a r e → low·reads.Learnt κs a r′ e′ → r ≡ r′
+  low-once a r r′ e e′ p q = p .0 ∙ sym (q .0)

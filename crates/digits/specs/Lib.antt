@@ -1,5 +1,5 @@
 -- What the promises on hexadecimal text cite.
 pub mod Hex
 pub mod Put
-pub mod Spelling
+pub mod Low
 pub mod Rows

@@ -4,7 +4,7 @@ ghost use Prim.Native.Nat.{_^_, _<_};
 ghost use mathlib.Core.Bool.{true, not};
 ghost use lib.ListN.{length};
 ghost use Rattle.digits.specs.Hex.{digit, hex, areDigits, isDigit, numberIn};
-ghost use Rattle.digits.specs.Spelling.{spelled, Weighs};
+ghost use Rattle.digits.specs.Low.{lowOf, lowIn};
 ghost use Rattle.digits.specs.Put.{putWhole};
 
 // The byte of a digit.
@@ -42,66 +42,48 @@ fn no_digit(b: u8) -> bool
     !(((48 <= b) & (b < 58)) | ((97 <= b) & (b < 103)))
 }
 
-// Whether all of a part is digits.
+// Whether all of a part is digits. The loop has no exit, so that the compiler looks at several bytes at once.
 pub fn are_digits(part: &[u8]) -> bool
     ensures { λ r. ⌜ r ≡ areDigits (now (part .entry)) ⌝ }
 {
+    let mut bad = false;
     let mut i = 0;
     while i < part.len() {
-        if no_digit(part[i]) {
-            return false;
-        }
+        bad = bad | no_digit(part[i]);
         i += 1;
     }
-    true
+    !bad
 }
 
-// What a digit says, by its low bits; of any other byte something below 16. No branch is in it.
-fn worth(b: u8) -> u64
-    ensures { λ r. ⌜ Weighs b r ⌝ }
+// What the low bits of a byte say: of a digit, the digit. No branch is in it.
+fn low_of(b: u8) -> u64
+    ensures { λ r. ⌜ (r ≡ lowOf b) × (r < 16) ⌝ }
 {
     ((b % 16 + 9 * (b / 64)) % 16) as u64
 }
 
-// A part read as a number of 64 bits: whether it is one, digits and sixteen at most, and what it says; 0 if it is none.
-pub struct Said {
-    pub is: bool,
-    pub number: u64,
-}
-
-// The loop has no exit, so that the compiler looks at several bytes at once.
-pub fn spelled(part: &[u8]) -> Said
-    ensures { λ r. ⌜ (r ≡ spelled (now (part .entry))) × (r .number < 16 ^ length (now (part .entry))) ⌝ }
+// What the low bits of a part say, whatever it is, sixteen bytes at most: of digits, their number. More say 0.
+pub fn low(part: &[u8]) -> u64
+    ensures { λ r. ⌜ (r ≡ lowIn (now (part .entry))) × (r < 16 ^ length (now (part .entry))) ⌝ }
 {
-    let none = Said {
-        is: false,
-        number: 0,
-    };
     if 16 < part.len() {
-        return none;
+        return 0;
     }
-    let mut bad = false;
     let mut x: u64 = 0;
     let mut i = 0;
     while i < part.len() {
-        let b = part[i];
-        bad = bad | no_digit(b);
-        x = x * 16 + worth(b);
+        x = x * 16 + low_of(part[i]);
         i += 1;
     }
-    if bad {
-        return none;
-    }
-    Said {
-        is: true,
-        number: x,
-    }
+    x
 }
 
-// What a part says. One that is no number says 0.
+// What a part says. One that is no number of 64 bits, digits and sixteen at most, says 0.
 pub fn number(part: &[u8]) -> u64
     ensures { λ r. ⌜ (r ≡ numberIn (now (part .entry))) × (r < 16 ^ length (now (part .entry))) ⌝ }
 {
-    let read = spelled(part);
-    read.number
+    if are_digits(part) {
+        return low(part);
+    }
+    0
 }

@@ -8,10 +8,9 @@ use borrow.Author.Tests.{lt-ltb, le-ltb, le-leb, lt-leb, eq-eqb, ne-eqb}
 use lib.Dec.{ltb, leb, eqb}
 use lib.ListN.{length, getD, take, drop, length-take, length-drop}
 use lib.Seq.{getD-drop}
-use Rattle.digits.specs.Hex.{areDigits, says, lf, numberIn}
-use Rattle.digits.specs.declared.Said.{Said}
-use Rattle.digits.specs.Spelling.{spelled}
-use Rattle.digits.proofs.Digits.{number-says}
+use Rattle.digits.specs.Hex.{areDigits, says, lf}
+use Rattle.digits.specs.Low.{lowIn}
+use Rattle.digits.proofs.Digits.{low-says}
 use Rattle.lines.specs.Line.{isLine, field, foundAt, noneAt, lineAt}
 
 -- a part, as the code cuts it
@@ -48,30 +47,21 @@ unended text at n ne =
     let no : eqb (getD (drop at text) n 0) lf ≡ false = ne-eqb _ _ (λ q. ne (sym (getD-drop at text n 0) ∙ q)) in
     no-line text at n (both-false (ltb n (length (drop at text))) _ (both-false (areDigits (take n (drop at text))) _ no))
 
--- one of them is no digit, so that they say no number
-spelling : (text : List ℕ) (at n : ℕ) (r : Said) → n ≤ 16 → r ≡ spelled (take (at + n - at) (drop at text)) → (r .is ≡ areDigits (take n (drop at text))) × (r .number ≡ numberIn (take n (drop at text)))
-unfolding spelled
-spelling text at n r few e =
-    let is : r ≡ spelled (take n (drop at text)) = e ∙ ap spelled (cut text at n) in
-    let short : length (take n (drop at text)) ≤ 16 = simp length-take (omega arith) in
-    let yes : leb (length (take n (drop at text))) 16 ≡ true = le-leb _ _ short in
-    (ap (λ (r : Said). r .is) is ∙ rw yes, ap (λ (r : Said). r .number) is)
-
-pub no-digits : (text : List ℕ) (at n : ℕ) (r : Said) → n ≤ 16 → r ≡ spelled (take (at + n - at) (drop at text)) → r .is ≡ false → noneAt at ≡ lineAt text at n
+-- one of them is no digit
+pub no-digits : (text : List ℕ) (at n : ℕ) (d : Bool) → d ≡ areDigits (take (at + n - at) (drop at text)) → d ≡ false → noneAt at ≡ lineAt text at n
 unfolding isLine
-no-digits text at n r few e f =
-    let other : areDigits (take n (drop at text)) ≡ false = sym (spelling text at n r few e .0) ∙ f in
+no-digits text at n d e f =
+    let other : areDigits (take n (drop at text)) ≡ false = sym (e ∙ ap areDigits (cut text at n)) ∙ f in
     no-line text at n (both-false (ltb n (length (drop at text))) _ (rw other))
 
--- it is there
-pub found : (text : List ℕ) (at n : ℕ) (r : Said) → n ≤ 16 → n < length text - at → getD text (at + n) 0 ≡ 10 → r ≡ spelled (take (at + n - at) (drop at text)) → r .is ≡ true
-    → foundAt at n (r .number) ≡ lineAt text at n
+-- it is there, and the low bits of its digits say its number
+pub found : (text : List ℕ) (at n x : ℕ) (d : Bool) → n ≤ 16 → n < length text - at → getD text (at + n) 0 ≡ 10
+    → d ≡ areDigits (take (at + n - at) (drop at text)) → d ≡ true → x ≡ lowIn (take (at + n - at) (drop at text)) → foundAt at n x ≡ lineAt text at n
 unfolding lineAt isLine field
-found text at n r few long ends e t =
+found text at n x d few long ends e t ex =
     let u : n < length (drop at text) = simp length-drop (omega arith) in
-    let said = spelling text at n r few e in
-    let all : areDigits (take n (drop at text)) ≡ true = sym (said .0) ∙ t in
+    let all : areDigits (take n (drop at text)) ≡ true = sym (e ∙ ap areDigits (cut text at n)) ∙ t in
     let short : length (take n (drop at text)) ≤ 16 = simp length-take (omega arith) in
     let lfed : eqb (getD (drop at text) n 0) lf ≡ true = eq-eqb _ _ (getD-drop at text n 0 ∙ ends) in
-    let is : r .number ≡ says (take n (drop at text)) = said .1 ∙ sym (number-says (take n (drop at text)) _ short (sym all) refl) in
+    let is : x ≡ says (take n (drop at text)) = ex ∙ ap lowIn (cut text at n) ∙ low-says (take n (drop at text)) all short in
     rw (le-leb _ _ few, lt-ltb _ _ u, all, lfed, is)

@@ -47,10 +47,10 @@ pub fn line_at(text: &[u8], at: usize, k: usize) -> Step
     if text[end] != 10 {
         return none;
     }
-    let said = digits::spelled(&text[at..end]);
-    if said.is {
+    let part = &text[at..end];
+    if digits::are_digits(part) {
         return Step {
-            line: Line::Number(said.number),
+            line: Line::Number(digits::low(part)),
             next: end + 1,
         };
     }

@@ -2,11 +2,12 @@
 use mathlib.Core.Path.{_≡_, refl, sym, ap, _∙_}
 use mathlib.Core.Bool.{true, false}
 use mathlib.Core.List.{List, [], _∷_, _++_, append-assoc, append-nil}
-use Prim.Native.Nat.{ℕ, suc, _+_, _-_, _≤_, _<_}
+use Prim.Native.Nat.{ℕ, suc, _+_, _-_, _*_, _^_, _≤_, _<_}
+use native.Mathlib.Nat.{pow-le-pow-right}
 use native.Mathlib.Numerals.{add-one}
 use native.Mathlib.Omega.{arith}
 use borrow.Author.Tests.{eq-eqb, ne-eqb}
-use lib.ListN.{length, take, drop, set, length-take}
+use lib.ListN.{length, take, drop, set, length-take, length-drop}
 use lib.Seq.{drop-drop, take-suc-set, take-all}
 use Rattle.slots.specs.Layout.{most, Kind, ring, vector, slotOf, itself, place, entries}
 use Rattle.slots.specs.Total.{total}
@@ -17,9 +18,10 @@ use Rattle.table.specs.Tray.{cap, list, nowhere}
 use Rattle.table.specs.Does.{Outcome, refused, gives, bare, headAfter}
 use Rattle.table.proofs.Laws.Valid.{Valid, and-left, and-right}
 use Rattle.digits.specs.Hex.{says}
-use Rattle.digits.proofs.Says.{says-under}
-use Rattle.lines.specs.declared.Step.{Step}
-use Rattle.lines.specs.Line.{isLine, field, lineAt, numberIn}
+use Rattle.digits.specs.Low.{lowIn}
+use Rattle.digits.proofs.Digits.{low-says}
+use Rattle.lines.specs.Line.{isLine, field}
+use Rattle.lines.proofs.Found.{cut}
 use Rattle.lines.proofs.Parts.{line-parts}
 use Rattle.ring.specs.declared.Ring.{Ring}
 use Rattle.ring.specs.declared.Answer as ringAnswer
@@ -30,12 +32,12 @@ use Rattle.vector.specs.Seen as vectors
 use Rattle.stored.specs.declared.judges.First.{First}
 use Rattle.stored.specs.declared.judges.Judged.{Judged}
 use Rattle.stored.specs.Form.{kindByte}
-use Rattle.stored.specs.Judge.{areLines, numbers, told, judge}
+use Rattle.stored.specs.Judge.{areLines, numbers, capIn, told, judge}
 use Rattle.stored.specs.Reads.{reads, totalRead, RingRead, VectorRead}
 use Rattle.stored.specs.First.{judged}
-use Rattle.stored.proofs.Exactly.{start, lines, many, stands-told, standing-valid}
+use Rattle.stored.proofs.Exactly.{start, lines, many, opened, stands-told, standing-valid}
 use Rattle.stored.proofs.Given.{reads-over, reads-other, reads-room, reads-done}
-use Rattle.stored.proofs.Judging.{line-there, first-is, opens-line}
+use Rattle.stored.proofs.Judging.{first-is, opens-line}
 
 -- SLOT AFTER SLOT: those that are written, with what the lines left say, are always what all lines say
 pub none-off : (text : List ℕ) (n : ℕ) → areLines n text ≡ true → areLines (n - 0) text ≡ true
@@ -51,42 +53,39 @@ here text slots i n at left lt en =
     let some : n - i ≡ suc m = omega arith in
     and-left _ _ (rw some at left)
 
-next-is : (text : List ℕ) (at : ℕ) (s : Step) → s ≡ lineAt text at 8 → isLine 8 (drop at text) ≡ true → s .next ≡ at + 9
-next-is text at s es there = ap (λ (s : Step). s .next) (es ∙ line-there text at 8 (omega arith) there) ∙ omega arith
-
-word-is : (text : List ℕ) (at v : ℕ) (s : Step) → s ≡ lineAt text at 8 → isLine 8 (drop at text) ≡ true → v ≡ numberIn (s .line)
-    → (v ≡ says (take 8 (drop at text))) × (v < 4294967296)
-unfolding field
-word-is text at v s es there ev =
+word-is : (text : List ℕ) (at x : ℕ) → isLine 8 (drop at text) ≡ true → x ≡ lowIn (take (at + 8 - at) (drop at text)) → x ≡ says (take 8 (drop at text))
+word-is text at x there ex =
     let l = line-parts 8 (drop at text) there in
-    let eight : length (take 8 (drop at text)) ≡ 8 = simp length-take (omega (arith, l .long)) in
-    let is : v ≡ says (take 8 (drop at text)) = ev ∙ ap (λ (s : Step). numberIn (s .line)) (es ∙ line-there text at 8 (omega arith) there) in
-    let small : says (take 8 (drop at text)) < 4294967296 = says-under 8 (take 8 (drop at text)) (l .digits) eight in
-    (is, omega arith)
+    let eight : length (take 8 (drop at text)) ≤ 16 = simp length-take (omega arith) in
+    ex ∙ ap lowIn (cut text at 8) ∙ low-says (take 8 (drop at text)) (l .digits) eight
 
-module _ (text slots : List ℕ) (i n at : ℕ) (left : areLines (n - i) (drop at text) ≡ true) (lt : i < length slots) (en : length slots ≡ n) (s : Step)
-    (es : s ≡ lineAt text at 8) where
-  pub slots-left : areLines (n - (i + 1)) (drop (s .next) text) ≡ true
+-- eight digits fit an entry
+pub eight : (text : List ℕ) (at : ℕ) → length (take (at + 8 - at) (drop at text)) ≤ 8
+eight text at = rw (cut text at 8) (simp length-take (omega arith))
+
+pub word-fits : (n x : ℕ) → x < 16 ^ n → n ≤ 8 → x < 4294967296
+word-fits n x small few = let most : 16 ^ n ≤ 16 ^ 8 = pow-le-pow-right {n = 16} (omega arith) few in omega arith
+
+module _ (text slots : List ℕ) (i n at : ℕ) (left : areLines (n - i) (drop at text) ≡ true) (lt : i < length slots) (en : length slots ≡ n) where
+  pub slots-left : areLines (n - (i + 1)) (drop (at + 8 + 1) text) ≡ true
   unfolding areLines
   slots-left =
       let m : ℕ = n - i - 1 in
       let some : n - i ≡ suc m = omega arith in
       let less : n - (i + 1) ≡ m = omega arith in
-      rw (less, next-is text at s es (here text slots i n at left lt en), ← drop-drop 9 at text) (and-right (isLine 8 (drop at text)) _ (rw some at left))
+      let next : at + 8 + 1 ≡ at + 9 = omega arith in
+      rw (less, next, ← drop-drop 9 at text) (and-right (isLine 8 (drop at text)) _ (rw some at left))
 
-  pub slot-fits : (v : ℕ) → v ≡ numberIn (s .line) → v < 4294967296
-  slot-fits v ev = word-is text at v s es (here text slots i n at left lt en) ev .1
-
-  pub slots-turn : (all : List ℕ) (v : ℕ) → take i slots ++ numbers (n - i) (drop at text) ≡ all → v ≡ numberIn (s .line)
-      → take (i + 1) (set slots i v) ++ numbers (n - (i + 1)) (drop (s .next) text) ≡ all
+  pub slots-turn : (all : List ℕ) (x : ℕ) → take i slots ++ numbers (n - i) (drop at text) ≡ all → x ≡ lowIn (take (at + 8 - at) (drop at text))
+      → take (i + 1) (set slots i x) ++ numbers (n - (i + 1)) (drop (at + 8 + 1) text) ≡ all
   unfolding numbers
-  slots-turn all v is ev =
+  slots-turn all x is ex =
       let m : ℕ = n - i - 1 in
       let some : n - i ≡ suc m = omega arith in
       let less : n - (i + 1) ≡ m = omega arith in
-      let yes = here text slots i n at left lt en in
+      let next : at + 8 + 1 ≡ at + 9 = omega arith in
       let was : take i slots ++ (says (take 8 (drop at text)) ∷ numbers m (drop 9 (drop at text))) ≡ all = rw some at is in
-      rw (less, next-is text at s es yes, ← drop-drop 9 at text, add-one i, take-suc-set slots i v lt, append-assoc, word-is text at v s es yes ev .0) was
+      rw (less, next, ← drop-drop 9 at text, add-one i, take-suc-set slots i x lt, append-assoc, word-is text at x (here text slots i n at left lt en) ex) was
 
 pub slots-end : (text slots all : List ℕ) (i n at : ℕ) → take i slots ++ numbers (n - i) (drop at text) ≡ all → length slots ≤ i → length slots ≡ n → slots ≡ all
 unfolding numbers
@@ -134,8 +133,14 @@ module _ (k : Kind) (text : List ℕ) (j : Judged) (ej : j ≡ judged k text) wh
     slots-read = ap (λ (f : First). numbers (f .cap) (drop 17 text)) first
 
     -- what `take_slots` asks
+    cap-in : (n : ℕ) → j .first .cap ≡ n → capIn text ≡ n
+    cap-in n e = sym (ap (λ (f : First). f .cap) first) ∙ e
+
     pub lines-read : (n : ℕ) → j .first .cap ≡ n → areLines n (drop 17 text) ≡ true
-    lines-read n e = ap (λ c. areLines c (drop 17 text)) (sym e ∙ ap (λ (f : First). f .cap) first) ∙ lines k text ok
+    lines-read n e = ap (λ c. areLines c (drop 17 text)) (sym (cap-in n e)) ∙ lines k text ok
+
+    pub lines-long : (n : ℕ) → j .first .cap ≡ n → 17 + 9 * n ≤ length text
+    lines-long n e = omega (arith, opened (kindByte k) text (start k text ok) .long, cap-in n e)
 
     -- and what the adding up does
     told-valid : Valid (cap (told k text)) (told k text .head) (told k text .len)

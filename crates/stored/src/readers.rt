@@ -1,12 +1,11 @@
 // A stored text read back into lent slots. The whole text is judged before the first slot is written.
 use super::judges::ring_judged;
 use super::judges::vector_judged;
-use lines::line_from;
 use runs::total;
 use runs::total::Total;
 ghost use mathlib.Core.Path.{_≡_};
 ghost use mathlib.Core.Bool.{true};
-ghost use Prim.Native.Nat.{_-_, _≤_};
+ghost use Prim.Native.Nat.{_+_, _-_, _*_, _≤_};
 ghost use lib.ListN.{length, drop};
 ghost use Rattle.slots.specs.Layout.{most, slotOf, entries, ring};
 ghost use Rattle.slots.specs.Total.{total};
@@ -14,18 +13,17 @@ ghost use Rattle.table.specs.Does.{headAfter};
 ghost use Rattle.stored.specs.Judge.{areLines, numbers};
 ghost use Rattle.stored.specs.Reads.{RingRead, VectorRead};
 
-// What the lines say, a slot each.
+// What the lines say, a slot each. They were judged, so nothing is tested again.
 fn take_slots(text: &[u8], from: usize, slots: &mut [u32])
-    requires { ⌜ areLines (length (now slots)) (drop from (now text)) ≡ true ⌝ }
+    requires { ⌜ (areLines (length (now slots)) (drop from (now text)) ≡ true) × (from + 9 * length (now slots) ≤ length (now text)) ⌝ }
     ensures { λ _. ⌜ now (slots .exit) ≡ numbers (length (now (slots .entry))) (drop from (now (text .entry))) ⌝ }
 {
     let mut i = 0;
     let mut at = from;
     while i < slots.len() {
-        let step = line_from(text, at, 8);
-        let line = step.line;
-        slots[i] = lines::number_of(line) as u32;
-        at = step.next;
+        let end = at + 8;
+        slots[i] = digits::low(&text[at..end]) as u32;
+        at = end + 1;
         i += 1;
     }
 }

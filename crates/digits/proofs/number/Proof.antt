@@ -1,6 +1,6 @@
--- `number` meets its promise: it is what was read, or 0.
+-- `number` meets its promise: of digits, what their low bits say.
 use borrow.Author.Needs.{needs}
-use Rattle.digits.proofs.Digits.{spelled-number}
+use Rattle.digits.proofs.Digits.{number-low, number-none, none-small}
 use Rattle.digits.proofs.number.Statement.{statement}
 use Rattle.digits.proofs.number.Tie as tie
 
@@ -9,4 +9,6 @@ number-spec =
     tie.close
     (tie.spec
     (λ c κs. search needs)
-    (λ c. search (spelled-number, needs)))
+    (λ c κs. search needs)
+    (λ c. search (number-low, needs))
+    (λ c. search (number-none, none-small)))

@@ -19,6 +19,7 @@ line-at-spec =
     (λ c. search needs)
     (λ c. search needs)
     (λ c κs. search needs)
+    (λ c κs. search needs)
     (λ c. search needs)
     (λ c. search found)
     (λ c. search no-digits))

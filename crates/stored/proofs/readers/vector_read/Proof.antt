@@ -1,6 +1,6 @@
 -- `vector_read` meets its promise: the refusals in their order, then the state, every slot and the total.
 use borrow.Author.Needs.{needs}
-use Rattle.stored.proofs.Taking.{lines-read, vector-over, vector-other, vector-room, len-fits, out-few, vector-done}
+use Rattle.stored.proofs.Taking.{lines-read, lines-long, vector-over, vector-other, vector-room, len-fits, out-few, vector-done}
 use Rattle.stored.proofs.readers.vector_read.Statement.{statement}
 use Rattle.stored.proofs.readers.vector_read.Tie as tie
 
@@ -17,7 +17,7 @@ vector-read-spec =
     (λ c κs. search needs)
     (λ c κs. search needs)
     (λ c. search vector-room)
-    (λ c κs. search lines-read)
+    (λ c κs. search (lines-read, lines-long))
     (λ c κs. search (len-fits, out-few, needs))
     (λ c κs. search needs)
     (λ c. search needs)

@@ -148,7 +148,7 @@ pub fn agree() -> Result<usize, String> {
         let taken = desk.take_numbers(case.call.0, case.call.1, case.call.2, &mut out);
         let printed = format!(" {:016x} {:016x}", case.left[0], case.left[1]);
         let ends = out.split(|&byte| byte == b'\n').next().is_some_and(|line| line.ends_with(printed.as_bytes()));
-        if !ends || !matches!(taken, Taken::Called(_, number, _) if number == case.number) {
+        if !ends || !matches!(taken, Taken::Called(_, number, ..) if number == case.number) {
             return Err(format!("request 04, {}: the desk prints\n{}by hand the answer is {} and the totals are{printed}", case.name, String::from_utf8_lossy(&out), case.number));
         }
     }

@@ -7,6 +7,7 @@ use crate::ops;
 use crate::pen::{self, Batch, Pen};
 use crate::random::Random;
 use crate::tally::Tally;
+use crate::texts;
 use std::io::{Read, Write};
 use std::process::{Child, ChildStdout, Command, Stdio};
 use std::sync::atomic::{AtomicU64, Ordering::Relaxed};
@@ -62,7 +63,7 @@ fn watch() {
     std::process::exit(1);
 }
 
-// All short cases, those at large capacities, damaged lines, then random ones until there are enough calls.
+// All short cases, damaged lines, large capacities, stored texts, then random ones until there are enough calls.
 fn everything(pen: &mut Pen, calls: u64) {
     exhaust::every(pen, &mut exhaust::Share::all());
     pen.set_first(2, 3, &[11, 0, 9, 10]);
@@ -72,6 +73,7 @@ fn everything(pen: &mut Pen, calls: u64) {
     damaged::long(pen, &[100, 4095, 4096, 4097, 65_535, 65_536, 65_537, 1_000_000]);
     large::every(pen);
     large::alike(pen);
+    texts::every(pen);
     let mut random = Random::new(0x0ac1e, MOST_SLOTS);
     while pen.tally.calls() < calls {
         random.case(pen);

@@ -9,7 +9,7 @@ fn is_operation(code: u8) -> bool {
 }
 
 fn good(rng: &mut Rng) -> Vec<u8> {
-    let code = if rng.one_in(4) { 1 + rng.below(9) as u8 } else { rng.pick(&ops::OPS.each_ref()).code };
+    let code = if rng.one_in(4) { 1 + rng.below(11) as u8 } else { rng.pick(&ops::OPS.each_ref()).code };
     written(code, rng.next(), rng.next())
 }
 
@@ -37,6 +37,7 @@ pub fn each(pen: &mut Pen) {
     pen.raw(b"12000000000000000000000000000000ab\r", true);
     reach(pen);
     totals(pen);
+    text(pen);
 }
 
 // Any total can be placed, and it stays when a line that would place another can't be taken; a call then shows both.
@@ -50,6 +51,24 @@ fn totals(pen: &mut Pen) {
             pen.raw(&[&line[..33], b"F"].concat(), true);
             pen.line(0x12, 0, 0);
         }
+    }
+}
+
+// The text stays too. Where it changed, the check that comes after would no longer say yes.
+fn text(pen: &mut Pen) {
+    let text = b"0000000100000001\n00000006\n";
+    pen.set_text(text);
+    for (code, a, b) in [(0x0a, 25, 0), (0x0b, 0, 0x31), (0x80, 3, 0)] {
+        let line = written(code, a, b);
+        pen.raw(&line[..33], true);
+        pen.raw(&[&line[..], b"0"].concat(), true);
+        pen.raw(&[&line[..33], b"F"].concat(), true);
+        pen.line(0x84, 0, 0);
+    }
+    let size = text.len() as u64;
+    for (code, a, b) in [(0x0a, 40_001, 0), (0x0a, (1 << 32) + 25, 0), (0x0b, size, 0x31), (0x0b, 0, 0x131), (0x0b, 1 << 32, 0x31), (0x0b, 0, (1 << 32) + 0x31), (0x81, 40_001, 0)] {
+        pen.line(code, a, b);
+        pen.line(0x84, 0, 0);
     }
 }
 
@@ -74,10 +93,13 @@ pub fn reach(pen: &mut Pen) {
     for a in [4, 1 << 32, u64::MAX, 3] {
         pen.line(0x2f, a, 0);
     }
-    for code in [0x80, 0x81] {
+    for code in [0x80, 0x81, 0x0a] {
         for a in [40_001, 1 << 32, u64::MAX, 44] {
             pen.line(code, a, 0);
         }
+    }
+    for (a, b) in [(44, 0), (43, 256), (u64::MAX, 0), (0, u64::MAX), (43, 255)] {
+        pen.line(0x0b, a, b);
     }
 }
 

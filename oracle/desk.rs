@@ -1,13 +1,15 @@
-// The desk that docs/REPLAY.md describes: two containers and a cursor, which stay from line to line. Lists come from `lists`, totals from what those add
-// up to, all else from `rules`.
+// The desk that docs/REPLAY.md describes: two containers, a cursor and a text, which stay from line to line. Lists come from `lists`, totals from what those
+// add up to, what a text says from `stored`, all else from `rules`.
 use crate::format;
 use crate::lists;
 use crate::ops::{self, Act, Act::*, Kind, Kind::*, Op};
 use crate::rules::{self, Asked, State};
+use crate::stored;
 use std::collections::VecDeque;
 
 pub const MOST_SLOTS: u64 = 4200;
 pub const MOST_TEXT: u64 = 40_000;
+const DASH: u8 = b'-'; // a byte that nothing was written to
 
 #[derive(Clone, Default, PartialEq)]
 pub struct Tray {
@@ -23,13 +25,14 @@ pub struct Desk {
     pub second: Tray,
     pub front: u64,
     pub back: u64,
+    pub text: Vec<u8>,
 }
 
 #[derive(Clone, Copy, PartialEq, Eq, Debug)]
 pub enum Taken {
     Placed,
     Refused, // the line can't be taken
-    Called(u8, u8, [Total; 2]), // operation and number
+    Called(u8, u8, u32, [Total; 2]), // operation, number and value
 }
 
 // The total that a call was given for a container and the one that it left, and what the container's list added up to before; a state that isn't valid
@@ -49,7 +52,7 @@ struct Answer {
     moves: u64,
     slot: Option<usize>,
     part: Option<Vec<u32>>,
-    text: Option<Vec<u8>>,
+    shows_text: bool,
 }
 
 impl Tray {
@@ -110,7 +113,9 @@ impl Desk {
             (_, 4..=6) => self.second.place(code - 3, a, b),
             (_, 7) => (self.front, self.back) = (a, b),
             (_, 8) => self.first.total = a,
-            _ => self.second.total = a,
+            (_, 9) => self.second.total = a,
+            (_, 10) => self.text.resize(a as usize, DASH),
+            _ => self.text[a as usize] = b as u8,
         }
         Taken::Placed
     }
@@ -123,7 +128,8 @@ impl Desk {
             0x06 => a < self.second.slots.len() as u64 && entry,
             0x15..=0x17 | 0x1a | 0x1d | 0x25 | 0x26 | 0x28 | 0x2a | 0x2d | 0x3c | 0x3d | 0x90 => entry,
             0x2f => a <= self.second.slots.len() as u64,
-            0x80 | 0x81 => a <= MOST_TEXT,
+            0x0a | 0x80 | 0x81 => a <= MOST_TEXT,
+            0x0b => a < self.text.len() as u64 && b <= u8::MAX as u64,
             _ => true,
         }
     }
@@ -155,18 +161,21 @@ impl Desk {
         let answer = match ops::plain(act) {
             Some(plain) => self.within(&Asked { act: plain, ..q }),
             None if ops::is_part(act) => self.lend(&q),
+            None if act == ReadBack => self.read_back(&q),
+            None if act == Check => Answer { value: stored::check(a, &self.text) as u32, ..Answer::default() },
             None => self.answered(&q),
         };
         self.print(&answer, out);
         let left = self.totals();
-        Taken::Called(op.code, answer.number, [0, 1].map(|k| Total { given: given[k], left: left[k], sum: sums[k] }))
+        Taken::Called(op.code, answer.number, answer.value, [0, 1].map(|k| Total { given: given[k], left: left[k], sum: sums[k] }))
     }
 
     fn answered(&mut self, q: &Asked) -> Answer {
         let number = rules::number(q);
         let mut answer = if number == 0 { self.done(q) } else { self.refused(q) };
         if q.act == Store {
-            answer.text = Some(self.text(q, number));
+            self.write_text(q, number);
+            answer.shows_text = true;
         }
         Answer { number, ..answer }
     }
@@ -284,12 +293,24 @@ impl Desk {
         Answer { value: part.len() as u32, part: Some(part), ..Answer::default() }
     }
 
-    fn text(&self, q: &Asked, number: u8) -> Vec<u8> {
-        let mut text = vec![b'-'; q.a as usize];
+    // It is lent dashes, and stays on the desk as the call leaves it.
+    fn write_text(&mut self, q: &Asked, number: u8) {
+        self.text = vec![DASH; q.a as usize];
         if number == 0 {
-            rules::store(q.kind, q.first, &self.first.slots, &mut text);
+            rules::store(q.kind, q.first, &self.first.slots, &mut self.text);
         }
-        text
+    }
+
+    // A making, so that a refused one leaves head, length and total 0; a done one has the total of the list that the text tells.
+    fn read_back(&mut self, q: &Asked) -> Answer {
+        let told = stored::told(q.kind, &self.text);
+        let number = stored::number(q.first.cap, told.as_ref());
+        (self.first.head, self.first.len) = (0, 0);
+        if let Some(told) = told.filter(|_| number == 0) {
+            (self.first.head, self.first.len, self.first.slots) = (told.head, told.len, told.slots);
+            self.first.total = sum(&self.first.list::<Vec<u32>>(q.kind));
+        }
+        Answer { number, ..Answer::default() }
     }
 
     fn print(&self, answer: &Answer, out: &mut Vec<u8>) {
@@ -302,8 +323,8 @@ impl Desk {
         if let Some(part) = &answer.part {
             format::entries(out, part);
         }
-        if let Some(text) = &answer.text {
-            format::text(out, text);
+        if answer.shows_text {
+            format::text(out, &self.text);
         }
     }
 }

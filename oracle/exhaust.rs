@@ -55,7 +55,7 @@ impl Share {
         let (before, behind) = allowance::sides(op.act, pen.desk.first.len, a);
         let (fewer, allowed) = (before.min(behind), pen.desk.front);
         let taken = self.made(pen, op, a, b);
-        let done = matches!(taken, Taken::Called(_, 0 | rules::TOO_MANY_MOVES, _));
+        let done = matches!(taken, Taken::Called(_, 0 | rules::TOO_MANY_MOVES, ..));
         let marks = [allowed < fewer, allowed == fewer, done && before < behind, done && behind < before, done && fewer > 0];
         self.log.push((taken, marks.iter().fold(0, |sum, &bit| 2 * sum + bit as u8)));
     }
@@ -122,7 +122,7 @@ fn op(kind: Kind, act: Act) -> &'static Op {
 
 // The calls on one container, its cursor's beginning with them.
 fn alone(pen: &mut Pen, kind: Kind, share: &mut Share) {
-    let elsewhere = |act: Act| ops::has_second(act) || ops::is_part(act) || ops::plain(act).is_some();
+    let elsewhere = |act: Act| ops::has_second(act) || ops::is_part(act) || ops::plain(act).is_some() || ops::has_text(act);
     let here = |act: Act| !elsewhere(act) && !matches!(act, StepFront | StepBack | PeekFront | PeekBack | Extend | Store);
     for s in states(4) {
         for op in OPS.iter().filter(|op| op.kind == kind && here(op.act)) {

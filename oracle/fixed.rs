@@ -10,6 +10,8 @@ use crate::random::Random;
 use crate::rng::Rng;
 use crate::selfcheck;
 use crate::tally::Tally;
+use crate::texts;
+use crate::texts_by_hand;
 use std::collections::BTreeMap;
 
 const DONE: usize = 32;
@@ -82,6 +84,9 @@ fn list(pen: &mut Pen) {
     large::few(pen);
     pen.say("Containers that hold one list at other heads and on other capacities, or one entry otherwise.");
     large::few_alike(pen);
+    pen.say("Request 08: texts read back and checked, whole and damaged, into as many slots and into others.");
+    texts_by_hand::write(pen);
+    texts::few(pen);
     pen.say("The last line has no LF and counts.");
     pen.raw(b"1600000000000000000000000000000001", false);
 }
@@ -92,7 +97,7 @@ fn sample() -> Vec<bool> {
     exhaust::every(&mut Pen::new(BATCH, Tally::new(), |_| {}), &mut all);
     let mut places: BTreeMap<(u8, u8, u8), Vec<usize>> = BTreeMap::new();
     for (k, &(taken, group)) in all.log.iter().enumerate() {
-        let key = if let Taken::Called(code, number, _) = taken { (code, number, group) } else { (0, 1, 0) };
+        let key = if let Taken::Called(code, number, ..) = taken { (code, number, group) } else { (0, 1, 0) };
         places.entry(key).or_default().push(k);
     }
     let mut chosen = vec![false; all.log.len()];

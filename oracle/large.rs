@@ -6,12 +6,12 @@ use crate::rng::Rng;
 use crate::rules::{self, State};
 use crate::totals;
 
-// Every call on each of these, from heads and lengths at the bounds.
+// Every call on each of these, from heads and lengths at the bounds; those on a text are in texts.rs.
 pub fn every(pen: &mut Pen) {
     let mut rng = Rng::new(0x1a46e);
     for cap in [15, 16, 17, 255, 256, 257, 4095, 4096, 4097, 4200] {
         let slots: Vec<u32> = (0..cap as u32).map(|k| 0x5000_0000 + k).collect();
-        for op in &OPS {
+        for op in OPS.iter().filter(|op| !ops::has_text(op.act)) {
             let times = if cap < 300 { 40 } else if ops::plain(op.act).is_some() { 12 } else { 3 };
             for _ in 0..times {
                 one(pen, &mut rng, op, &slots);

@@ -16,15 +16,20 @@ mod random;
 mod rng;
 mod rules;
 mod selfcheck;
+mod stored;
 mod tally;
+mod texts;
+mod texts_by_hand;
 mod totals;
 mod wrong;
 mod wrong_allowance;
+mod wrong_kept;
+mod wrong_texts;
 
 use std::io::{BufRead, Write};
 use std::process::exit;
 
-const USAGE: &str = "oracle selfcheck             paper 01's trays and a few more, against results written by hand; wrong rules of a total and of an allowance
+const USAGE: &str = "oracle selfcheck             paper 01's trays and a few more, against results written by hand; wrong rules of a total, an allowance, a text
 oracle fixed DIR             writes the fixed list: DIR/stdin and what it must print, DIR/stdout
 oracle best REPLAY           tries on all small rings that no layout moves fewer plates than an insertion or removal does
 oracle compare REPLAY [M]    compares the program REPLAY on all short cases and on random ones, M million calls in all (5)

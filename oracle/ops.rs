@@ -17,7 +17,7 @@ pub enum Act {
     Range, AsSlice, AsRef, Deref, AsMutSlice, DerefMut,
     Append, SplitOff, Clone, Same, SameAsVector,
     Iter, IntoIter, StepFront, StepBack, PeekFront, PeekBack, FromIter,
-    Store,
+    Store, ReadBack, Check,
 }
 
 pub struct Op {
@@ -35,7 +35,7 @@ const fn op(code: u8, kind: Kind, act: Act, name: &'static str, numbers: &'stati
 use Act::*;
 use Kind::*;
 
-pub const OPS: [Op; 68] = [
+pub const OPS: [Op; 71] = [
     op(0x10, Ring, New, "ring new", &[0, 1]),
     op(0x11, Ring, WithCapacity, "ring with_capacity", &[0, 1, 6]),
     op(0x12, Ring, Len, "ring len", &[0, 1]),
@@ -102,11 +102,14 @@ pub const OPS: [Op; 68] = [
     op(0x76, Vector, FromIter, "vector from_iter", &[0, 1, 2, 3, 5, 6]),
     op(0x80, Ring, Store, "ring stored", &[0, 1, 6]),
     op(0x81, Vector, Store, "vector stored", &[0, 1, 6]),
+    op(0x82, Ring, ReadBack, "ring read back", &[0, 1, 6, 14]),
+    op(0x83, Vector, ReadBack, "vector read back", &[0, 1, 6, 14]),
+    op(0x84, Ring, Check, "text checked", &[0]), // of no container; this kind leaves the head alone
     op(0x90, Ring, InsertWithin, "ring insert_within", &[0, 1, 3, 6, 12]),
     op(0x91, Ring, RemoveWithin, "ring remove_within", &[0, 1, 3, 12]),
 ];
 
-pub const PLACING: std::ops::RangeInclusive<u8> = 1..=9;
+pub const PLACING: std::ops::RangeInclusive<u8> = 1..=11;
 
 // Where a code stands in OPS; 255 where it is no operation.
 const PLACES: [u8; 256] = {
@@ -146,6 +149,16 @@ pub fn plain(act: Act) -> Option<Act> {
     }
 }
 
+// Both look at the text on the desk alone.
+pub fn has_text(act: Act) -> bool {
+    matches!(act, ReadBack | Check)
+}
+
+// A done call answers yes or no.
+pub fn is_question(act: Act) -> bool {
+    matches!(act, IsEmpty | Same | SameAsVector | Check)
+}
+
 // These put b into a container.
 pub fn has_entry(act: Act) -> bool {
     matches!(act, Write | PushBack | PushFront | Insert | InsertWithin | Resize | FromElem | AsMutSlice | DerefMut)
@@ -154,7 +167,7 @@ pub fn has_entry(act: Act) -> bool {
 // These look at a.
 pub fn has_position(act: Act) -> bool {
     matches!(act, WithCapacity | FromElem | Read | AskRange | Reserve | TryReserve | TryReserveExact | Write | Insert | Remove | SwapRemove)
-        || matches!(act, Truncate | Resize | Extend | Range | AsMutSlice | DerefMut | SplitOff | PeekFront | PeekBack | Store)
+        || matches!(act, Truncate | Resize | Extend | Range | AsMutSlice | DerefMut | SplitOff | PeekFront | PeekBack | Store | Check)
         || matches!(act, InsertWithin | RemoveWithin)
 }
 

@@ -98,6 +98,18 @@ impl<'a> Pen<'a> {
         }
     }
 
+    // The bytes that differ from those on the desk.
+    pub fn set_text(&mut self, text: &[u8]) {
+        if self.desk.text.len() != text.len() {
+            self.line(0x0a, text.len() as u64, u64::MAX);
+        }
+        for (k, &byte) in text.iter().enumerate() {
+            if self.desk.text[k] != byte {
+                self.line(0x0b, k as u64, byte as u64);
+            }
+        }
+    }
+
     fn set(&mut self, shift: u8, now: &Tray, head: u64, len: u64, slots: &[u32]) {
         let anew = now.slots.len() != slots.len();
         if anew {
@@ -123,6 +135,7 @@ pub fn placing(desk: &Desk) -> Vec<u8> {
         pen.set_second(desk.second.head, desk.second.len, &desk.second.slots);
         pen.set_totals(desk.first.total, desk.second.total);
         pen.set_cursor(desk.front, desk.back);
+        pen.set_text(&desk.text);
         pen.flush();
     }
     lines

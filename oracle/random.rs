@@ -6,6 +6,7 @@ use crate::ops::{self, Act::*, Kind, Kind::*, Op, OPS};
 use crate::pen::Pen;
 use crate::rng::Rng;
 use crate::rules;
+use crate::texts;
 use crate::totals;
 
 const WIDE: [u64; 8] = [u32::MAX as u64, 1 << 32, (1 << 32) + 1, (1 << 63) - 1, 1 << 63, (1 << 63) + 1, u64::MAX - 1, u64::MAX];
@@ -185,7 +186,7 @@ impl Random {
     fn operation(&mut self, kinds: &[Kind]) -> &'static Op {
         loop {
             let op = &OPS[self.rng.below(OPS.len() as u64) as usize];
-            let seldom = rules::is_making(op.act) || matches!(op.act, Clear | Store);
+            let seldom = rules::is_making(op.act) && op.act != ReadBack || matches!(op.act, Clear | Store);
             if kinds.contains(&op.kind) && (!seldom || self.rng.one_in(12)) {
                 return op;
             }
@@ -194,6 +195,11 @@ impl Random {
 
     fn call(&mut self, pen: &mut Pen, kinds: &[Kind]) {
         let op = self.operation(kinds);
+        match op.act {
+            ReadBack => return texts::back(pen, &mut self.rng, op.kind),
+            Check => return texts::checked(pen, &mut self.rng),
+            _ => {}
+        }
         let a = match op.act {
             Store => self.text(pen),
             Truncate | SplitOff if !self.rng.one_in(3) => pen.desk.first.len.saturating_sub(self.rng.below(4)),

@@ -2,7 +2,7 @@
 // from the papers: validity, slots, heads, numbers, carrying, moves, reports, stored form. No list is made here.
 use crate::ops::{self, Act, Act::*, Kind, Kind::*};
 
-const MOST: u64 = 4096;
+pub const MOST: u64 = 4096;
 pub const NO_SLOT: u64 = 65_535; // what is reported where there is no slot to report
 pub const TOO_MANY_MOVES: u8 = 12;
 
@@ -42,8 +42,9 @@ pub fn slot(kind: Kind, s: State, j: u64) -> usize {
     }
 }
 
+// A container that is read back counts as made.
 pub fn is_making(act: Act) -> bool {
-    matches!(act, New | WithCapacity | FromElem)
+    matches!(act, New | WithCapacity | FromElem | ReadBack)
 }
 
 // The first number that applies, from the lowest up; 0 where none does. A higher one is only tried once the lower ones don't apply, so states are valid by then.

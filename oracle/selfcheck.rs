@@ -1,14 +1,19 @@
 // Checks the desk's answers against results written by hand: paper 01's cases a to m and its listing, request 03's emptied rings, request 10's slots,
-// request 04's totals (by_hand.rs), request 11's allowances (allowance.rs), and answers to the byte for what those leave out; and that a wrong rule of a
-// total or of an allowance is noticed (wrong.rs, wrong_allowance.rs).
+// request 04's totals (by_hand.rs), request 11's allowances (allowance.rs), request 08's texts (texts_by_hand.rs), and answers to the byte for what those leave
+// out; and that a wrong rule of a total, of an allowance, of reading a text or of the text on the desk is noticed (wrong.rs, wrong_allowance.rs, wrong_texts.rs,
+// wrong_kept.rs).
 use crate::allowance;
 use crate::by_hand;
 use crate::desk::{Desk, Taken};
 use crate::fixed;
 use crate::ops::{self, Op, OPS};
 use crate::pen::Pen;
+use crate::texts;
+use crate::texts_by_hand;
 use crate::wrong;
 use crate::wrong_allowance;
+use crate::wrong_kept;
+use crate::wrong_texts;
 
 struct Case {
     name: &'static str,
@@ -156,15 +161,18 @@ pub fn run() -> Result<(), String> {
     let bytes = to_the_byte()?;
     let counts = shorter_side()?;
     let (found, none) = looked_for()?;
-    let (totals, allowed) = (by_hand::agree()?, allowance::agree()?);
+    let (totals, allowed, stored) = (by_hand::agree()?, allowance::agree()?, texts_by_hand::agree()?);
+    let (changed, accepted) = texts::counted()?;
     let (twelve, other) = allowance::held()?;
     let list = fixed::input();
     let (of_total, of_allowance) = (wrong::noticed(&list)?, wrong_allowance::noticed(&list)?);
+    let (of_text, of_kept) = (wrong_texts::noticed(&list)?, wrong_kept::noticed(&list)?);
     let (paper, emptied, reported) = (PAPER.len(), EMPTIED.len(), REPORTED.len());
-    println!("oracle selfcheck: {paper} cases of paper 01, its listing, {emptied} of request 03, {reported} of request 10, {totals} of request 04, {allowed} of request 11 and");
-    println!("{bytes} answers to the byte agree with what was written by hand, {counts} counts of moves with the paper's formula for a ring, and {found} slots reported");
+    println!("oracle selfcheck: {paper} cases of paper 01, its listing, {emptied} of request 03, {reported} of request 10, {totals} of request 04, {allowed} of request 11,");
+    println!("{stored} of request 08 and {bytes} answers to the byte agree with what was written by hand, {counts} counts of moves with the paper's formula for a ring, and {found} slots reported");
     println!("with where the entry is found; {none} calls report none, as they must; {twelve} calls with an allowance answer 12, by that formula, and {other} as without it;");
-    println!("the fixed list notices each of {of_total} wrong rules of a total and each of {of_allowance} of an allowance");
+    println!("of {changed} texts with one byte changed {accepted} are accepted, as many as their digits allow;");
+    println!("the fixed list notices each of {of_total} wrong rules of a total, {of_allowance} of an allowance, {of_text} of reading a text and {of_kept} of what text stays");
     Ok(())
 }
 
@@ -256,13 +264,13 @@ pub fn called(desk: &mut Desk, (code, a, b): (u8, u64, u64)) -> Result<Answer, S
     let text = String::from_utf8(out).map_err(|e| e.to_string())?;
     let fields: Option<Vec<u64>> = text.lines().next().map(|line| line.split(' ').map_while(|x| u64::from_str_radix(x, 16).ok()).collect());
     match (taken, fields.as_deref()) {
-        (Taken::Called(_, number, _), Some(&[n, value, moves, _, _, _, _, _, _, slot, _, _])) if n == number as u64 => Ok((number, value as u32, moves, slot)),
+        (Taken::Called(_, number, ..), Some(&[n, value, moves, _, _, _, _, _, _, slot, _, _])) if n == number as u64 => Ok((number, value as u32, moves, slot)),
         _ => Err(format!("the desk printed {text:?} for operation {code:02x}")),
     }
 }
 
 // Lines with what they print, both written by hand: `_` stands for ten 0, so that they can be read.
-const BYTES: [(&str, &str); 57] = [
+const BYTES: [(&str, &str); 82] = [
     ("01_000004_000000", ""),
     ("02_0000002_0000003", "! not 34 lower-case hexadecimal digits\n"),
     ("02_000002_000003", ""),
@@ -273,7 +281,7 @@ const BYTES: [(&str, &str); 57] = [
     ("04_000002_000000", ""),
     ("06_000001_0000ee", ""),
     ("06_000002_000000", "! out of reach\n"),
-    ("0a_000002_000000", "! no such operation\n"),
+    ("0c_000002_000000", "! no such operation\n"),
     ("03_000002_00000A", "! not 34 lower-case hexadecimal digits\n"),
     // the first's total is right, 30; T's is wrong by 5
     ("08_00001e_000001", ""),
@@ -330,6 +338,34 @@ const BYTES: [(&str, &str); 57] = [
     ("90_000001_000005", "00 00000000 _000001 _000000 _000003 _000000 _000000 _000001 _000009 0001 _000005 _000000\n00000002\n00000005\n00000007\n00000000\n"),
     ("07ffffffffffffffff_000009", ""),
     ("90_000001_000005", "06 00000000 _000000 _000000 _000003 _000000 _000000 ffffffffffffffff _000009 ffff _000005 _000000\n00000002\n00000005\n00000007\n00000000\n"),
+    // one slot is written as a ring and stays on the desk: it is a ring's text and no vector's, and it is read into one slot alone
+    ("01_000001_000000", ""),
+    ("02_000000_000001", ""),
+    ("03_000000_00000a", ""),
+    ("08_000005_000000", ""),
+    ("80_00001a_000000", "00 0000001a _000000 _000000 _000001 _000000 _000000 ffffffffffffffff _000009 ffff _000005 _000000\n0000000a\n00000000\n0000000100000001\n0000000a\n\n"),
+    ("03_000000_00000c", ""),
+    ("84_000000_000000", "00 00000001 _000000 _000000 _000001 _000000 _000000 ffffffffffffffff _000009 ffff _000005 _000000\n0000000c\n00000000\n"),
+    ("84_000001_000000", "00 00000000 _000000 _000000 _000001 _000000 _000000 ffffffffffffffff _000009 ffff _000005 _000000\n0000000c\n00000000\n"),
+    ("83_000000_000000", "0e 00000000 _000000 _000000 _000000 _000000 _000000 ffffffffffffffff _000009 ffff _000000 _000000\n0000000c\n00000000\n"),
+    ("82_000000_000000", "00 00000000 _000000 _000000 _000001 _000000 _000000 ffffffffffffffff _000009 ffff _00000a _000000\n0000000a\n00000000\n"),
+    // 02 would be a length above the capacity; a byte that isn't there and a number that is no byte change nothing
+    ("0b_00000f_000032", ""),
+    ("82_000000_000000", "0e 00000000 _000000 _000000 _000000 _000000 _000000 ffffffffffffffff _000009 ffff _000000 _000000\n0000000a\n00000000\n"),
+    ("0b_00000f_000031", ""),
+    ("0b_00000f_000100", "! out of reach\n"),
+    ("0b_00001a_000000", "! out of reach\n"),
+    ("0b_0000000_000000", "! not 34 lower-case hexadecimal digits\n"),
+    ("0a_009c41_000000", "! out of reach\n"),
+    ("84_000000_000000", "00 00000001 _000000 _000000 _000000 _000000 _000000 ffffffffffffffff _000009 ffff _000000 _000000\n0000000a\n00000000\n"),
+    ("01_000002_000000", ""),
+    ("82_000000_000000", "06 00000000 _000000 _000000 _000000 _000000 _000000 ffffffffffffffff _000009 ffff _000000 _000000\n00000000\n00000000\n00000000\n"),
+    // its last byte gone, and in its place a dash: what was there does not come back
+    ("0a_000019_000000", ""),
+    ("0a_00001a_000000", ""),
+    ("84_000000_000000", "00 00000000 _000000 _000000 _000000 _000000 _000000 ffffffffffffffff _000009 ffff _000000 _000000\n00000000\n00000000\n00000000\n"),
+    ("0b_000019_00000a", ""),
+    ("84_000000_000000", "00 00000001 _000000 _000000 _000000 _000000 _000000 ffffffffffffffff _000009 ffff _000000 _000000\n00000000\n00000000\n00000000\n"),
 ];
 
 fn to_the_byte() -> Result<usize, String> {

@@ -1,4 +1,4 @@
-// Counts the calls by operation and number, and tells which numbers of an operation, and which kinds of totals with each, were never met.
+// Counts the calls by operation and number, and tells which numbers of an operation, which kinds of totals with each, and which of yes and no, were never met.
 use crate::desk::{Taken, Total};
 use crate::ops::{self, Op, OPS};
 use std::fmt::Write;
@@ -10,28 +10,32 @@ const UP: u8 = 4; // above 2^64 - 1 with what is put in
 const DOWN: u8 = 8; // below 0 with what is taken out
 const WORDS: [(u8, &str); 4] = [(RIGHT, "right"), (WRONG, "wrong"), (UP, "passing 2^64"), (DOWN, "passing 0")];
 
-const NUMBERS: [u8; 8] = [0, 1, 2, 3, 4, 5, 6, 12]; // that a call of `replay` can answer
-const UP_TO: usize = 13;
+const NUMBERS: [u8; 9] = [0, 1, 2, 3, 4, 5, 6, 12, 14]; // that a call of `replay` can answer
+const UP_TO: usize = 15;
 
 #[derive(Clone)]
 pub struct Tally {
     calls: Vec<[u64; UP_TO]>, // by code
     totals: Vec<[[u8; 2]; UP_TO]>, // of the first container and of the second, the kinds that were met
+    said: Vec<[bool; 2]>, // of a question, by code: whether no was met, and yes
     pub placed: u64,
     pub refused: u64, // lines that couldn't be taken
 }
 
 impl Tally {
     pub fn new() -> Tally {
-        Tally { calls: vec![[0; UP_TO]; 256], totals: vec![[[0; 2]; UP_TO]; 256], placed: 0, refused: 0 }
+        Tally { calls: vec![[0; UP_TO]; 256], totals: vec![[[0; 2]; UP_TO]; 256], said: vec![[false; 2]; 256], placed: 0, refused: 0 }
     }
 
     pub fn count(&mut self, taken: Taken) {
         match taken {
             Taken::Placed => self.placed += 1,
             Taken::Refused => self.refused += 1,
-            Taken::Called(code, number, totals) => {
+            Taken::Called(code, number, value, totals) => {
                 self.calls[code as usize][number as usize] += 1;
+                if number == 0 {
+                    self.said[code as usize][(value == 1) as usize] = true;
+                }
                 for (met, total) in self.totals[code as usize][number as usize].iter_mut().zip(totals) {
                     *met |= kinds(total);
                 }
@@ -59,7 +63,9 @@ impl Tally {
         }
         let met = self.totals[op.code as usize][number as usize];
         let of = |k: usize| WORDS.iter().filter(move |(kind, _)| needs(op, number)[k] & !met[k] & kind != 0).map(move |(_, words)| (k, words));
-        [0, 1].into_iter().flat_map(of).map(|(k, words)| format!(" with the {} total {words}", ["first's", "second's"][k])).collect()
+        let said = [0, 1].into_iter().filter(|&k| number == 0 && ops::is_question(op.act) && !self.said[op.code as usize][k]);
+        let said = said.map(|k| format!(", {}", ["no", "yes"][k]));
+        [0, 1].into_iter().flat_map(of).map(|(k, words)| format!(" with the {} total {words}", ["first's", "second's"][k])).chain(said).collect()
     }
 
     // A row for each operation; '-' where paper 01 gives it no such number.

@@ -136,7 +136,7 @@ fn differs(rule: &Rule, input: &[u8]) -> bool {
         right.take(line, &mut Vec::new());
         let taken = wrong.take(line, &mut Vec::new());
         let Some((code, a, b)) = format::parse(line).filter(|_| taken != Taken::Refused) else { return false };
-        let number = if let Taken::Called(_, number, _) = taken { number } else { 0 };
+        let number = if let Taken::Called(_, number, ..) = taken { number } else { 0 };
         let seen = Seen { code, op: ops::find(code), a, b, number, before: &before, after: &wrong };
         let leaves = (rule.when)(&seen).then(|| (rule.leaves)(&seen));
         if let Some(total) = leaves {

@@ -5,7 +5,7 @@ use cursors::Cursor;
 use cursors::Step;
 use cursors::Taken;
 
-// What a call answers, the slot that it reports, how many bytes of the text are printed after the slots, and the desk afterwards.
+// What a call answers, the slot that it reports, how many bytes are printed after the slots, and the desk afterwards.
 pub(crate) struct Did {
     pub(crate) number: u8,
     pub(crate) value: u32,
@@ -59,13 +59,19 @@ impl Desk {
         self.did(a.number, a.value, a.moves, a.slot)
     }
 
-    // A part bears no number and reports no slot: its length stands as the value, and a line for each entry is in the text.
+    // A part bears no number and reports no slot: its length stands as the value, and a line for each entry is shown.
     pub(crate) fn after_part(mut self, count: usize) -> Did {
         let n = crate::desks::least(count, 4200);
         self.first = ring::state(0, self.first.len, self.first.total);
         let mut did = self.did(0, n as u32, 0, slots::NO_SLOT);
         did.shown = 9 * n;
         did
+    }
+
+    // A check bears no number either: its yes or no stands as the value, and the desk stays.
+    pub(crate) fn after_check(self, yes: bool) -> Did {
+        let value = if yes { 1 } else { 0 };
+        self.did(0, value, 0, slots::NO_SLOT)
     }
 
     fn after_walk(mut self, number: u8, value: u32, slot: usize, cursor: Cursor) -> Did {

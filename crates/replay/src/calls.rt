@@ -13,6 +13,7 @@ pub(crate) fn call(
     slots: &mut [u32],
     theirs: &mut [u32],
     text: &mut [u8],
+    out: &mut [u8],
 ) -> Did {
     let op = q.op;
     let first = desk.first;
@@ -20,13 +21,13 @@ pub(crate) fn call(
     match op {
         0x10..=0x1e => desk.after_ring(on_ring(op, q.a, q.x, first, slots)),
         0x20..=0x33 => desk.after_vector(on_vector(q, over, slots, theirs)),
-        0x38..=0x3d => desk.after_part(crate::shows::part(q, over, slots, text)),
+        0x38..=0x3d => desk.after_part(crate::shows::part(q, over, slots, out)),
         0x40..=0x43 => desk.after_rings(on_rings(op, q.a, desk, slots, theirs)),
         0x44 => desk.after_mixed(on_mixed(desk, slots, theirs)),
         0x50..=0x53 => desk.after_vectors(on_vectors(op, q.a, desk, slots, theirs)),
         0x60..=0x66 => over_ring(op, q.a, desk, slots, theirs),
         0x70..=0x76 => over_vector(op, q.a, desk, slots, theirs),
-        0x80..=0x81 => crate::shows::stored_form(q, desk, slots, text),
+        0x80..=0x84 => crate::texts::call(q, desk, slots, text, out),
         _ => desk.after_ring(within(q, desk, slots)), // 90 and 91
     }
 }

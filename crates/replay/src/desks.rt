@@ -1,4 +1,4 @@
-// What stands on the desk, two containers and a cursor, and what is placed there.
+// What stands on the desk, two containers, a cursor and a text, and what is placed there.
 use crate::lines::Asked;
 use cursors::Cursor;
 use ring::Ring;
@@ -6,10 +6,12 @@ use runs::total;
 use vector::Vector;
 ghost use Prim.Native.Nat.{_≤_};
 
-// How many of the lent slots each container has, the containers with their totals, and the cursor. A vector is its length and its total, with head 0.
+// How many of the lent slots each container has and how many of the lent bytes the text, the containers with their totals, and the cursor. A vector is its
+// length and its total, with head 0.
 pub(crate) struct Desk {
     pub(crate) cap: usize,
     pub(crate) cap2: usize,
+    pub(crate) size: usize,
     pub(crate) first: Ring,
     pub(crate) second: Ring,
     pub(crate) cursor: Cursor,
@@ -37,6 +39,7 @@ pub(crate) fn cleared() -> Desk {
     Desk {
         cap: 0,
         cap2: 0,
+        size: 0,
         first: empty(),
         second: empty(),
         cursor: cursor(0, 0),
@@ -72,8 +75,14 @@ pub(crate) fn lay(slots: &mut [u32], at: usize, x: u32) {
     }
 }
 
-// Operations 01 to 09: lines.rt lets no other through.
-pub(crate) fn place(q: Asked, mut desk: Desk, first: &mut [u32], second: &mut [u32]) -> Desk {
+// Operations 01 to 0b: lines.rt lets no other through.
+pub(crate) fn place(
+    q: Asked,
+    mut desk: Desk,
+    first: &mut [u32],
+    second: &mut [u32],
+    text: &mut [u8],
+) -> Desk {
     let op = q.op;
     match op {
         0x01 => {
@@ -92,7 +101,9 @@ pub(crate) fn place(q: Asked, mut desk: Desk, first: &mut [u32], second: &mut [u
         0x06 => lay(second, q.a, q.x),
         0x07 => desk.cursor = cursor(q.a, q.b),
         0x08 => desk.first.total.sum = q.a as u64,
-        _ => desk.second.total.sum = q.a as u64, // 09
+        0x09 => desk.second.total.sum = q.a as u64,
+        0x0a => desk.size = crate::texts::sized(desk.size, q.a, text),
+        _ => crate::texts::lay(text, q.a, q.x), // 0b
     }
     desk
 }

@@ -26,7 +26,7 @@ pub(crate) enum Verdict {
 fn known(op: u64) -> bool
     ensures { λ r. ⌜ r ≡ isKnown op ⌝ }
 {
-    ((0x01 <= op) & (op <= 0x09))
+    ((0x01 <= op) & (op <= 0x0b))
         | ((0x10 <= op) & (op <= 0x1e))
         | ((0x20 <= op) & (op <= 0x33))
         | ((0x38 <= op) & (op <= 0x3d))
@@ -34,7 +34,7 @@ fn known(op: u64) -> bool
         | ((0x50 <= op) & (op <= 0x53))
         | ((0x60 <= op) & (op <= 0x66))
         | ((0x70 <= op) & (op <= 0x76))
-        | ((0x80 <= op) & (op <= 0x81))
+        | ((0x80 <= op) & (op <= 0x84))
         | ((0x90 <= op) & (op <= 0x91))
 }
 
@@ -55,23 +55,25 @@ fn takes_entry(op: u64) -> bool
         | (op == 0x90)
 }
 
-// Slots above 4,200, a slot that isn't there, an entry above 32 bits, more numbers than the second has slots, a text above 40,000 bytes.
-fn beyond(entry: bool, op: u64, a: usize, b: usize, cap: usize, cap2: usize) -> bool
-    ensures { λ r. ⌜ r ≡ isBeyond entry op a b cap cap2 ⌝ }
+// Slots above 4,200, a slot that isn't there, an entry above 32 bits, more numbers than the second has slots, a text above 40,000 bytes, a byte that isn't
+// there, a byte above 8 bits.
+fn beyond(entry: bool, op: u64, a: usize, b: usize, cap: usize, cap2: usize, size: usize) -> bool
+    ensures { λ r. ⌜ r ≡ isBeyond entry op a b cap cap2 size ⌝ }
 {
     (((op == 0x01) | (op == 0x04)) & (4200 < a))
         | ((op == 0x03) & (cap <= a))
         | ((op == 0x06) & (cap2 <= a))
         | (entry & (0x1_0000_0000 <= b))
         | ((op == 0x2f) & (cap2 < a))
-        | (((op == 0x80) | (op == 0x81)) & (40000 < a))
+        | (((op == 0x0a) | ((0x80 <= op) & (op <= 0x81))) & (40000 < a))
+        | ((op == 0x0b) & ((size <= a) | (255 < b)))
 }
 
-fn sorted(op: u64, a: usize, b: usize, cap: usize, cap2: usize) -> Verdict
-    ensures { λ r. ⌜ isTaken r ≡ reaches op a b cap cap2 ⌝ }
+fn sorted(op: u64, a: usize, b: usize, cap: usize, cap2: usize, size: usize) -> Verdict
+    ensures { λ r. ⌜ isTaken r ≡ reaches op a b cap cap2 size ⌝ }
 {
     if known(op) {
-        if beyond(takes_entry(op), op, a, b, cap, cap2) {
+        if beyond(takes_entry(op), op, a, b, cap, cap2, size) {
             return Verdict::Beyond;
         }
         return taken(op, a, b);
@@ -96,9 +98,9 @@ fn taken(op: u64, a: usize, b: usize) -> Verdict
     Verdict::Call(Asked { op, a, b, x })
 }
 
-// What a line asks of a desk whose containers have so many slots.
-pub(crate) fn judge(line: &[u8], cap: usize, cap2: usize) -> Verdict
-    ensures { λ r. ⌜ isTaken r ≡ takes (now (line .entry)) cap cap2 ⌝ }
+// What a line asks of a desk whose containers have so many slots, and its text so many bytes.
+pub(crate) fn judge(line: &[u8], cap: usize, cap2: usize, size: usize) -> Verdict
+    ensures { λ r. ⌜ isTaken r ≡ takes (now (line .entry)) cap cap2 size ⌝ }
 {
     if line.len() != 34 {
         return Verdict::Damaged;
@@ -107,7 +109,7 @@ pub(crate) fn judge(line: &[u8], cap: usize, cap2: usize) -> Verdict
         let op = digits::number(&line[0..2]);
         let a = digits::number(&line[2..18]);
         let b = digits::number(&line[18..34]);
-        return sorted(op, a as usize, b as usize, cap, cap2);
+        return sorted(op, a as usize, b as usize, cap, cap2, size);
     }
     Verdict::Damaged
 }

@@ -4,7 +4,8 @@ mod lines; // lines.rt: what a line asks, or why it can't be taken
 mod desks; // desks.rt: what stands on the desk, and what is placed there
 mod calls; // calls.rt: the calls by their numbers
 mod answers; // answers.rt: what an answer leaves on the desk
-mod shows; // shows.rt: what a call shows beside its answer
+mod shows; // shows.rt: what a part shows beside the answer
+mod texts; // texts.rt: the text on the desk
 mod prints; // prints.rt: what is printed of a call
 
 use desks::Desk;
@@ -24,13 +25,20 @@ struct Begun {
 }
 
 // A call on as many of the lent slots as the containers have. What it shows stands after the slots, and goes there first: the call may change them.
-fn call(q: Asked, desk: Desk, first: &mut [u32], second: &mut [u32], out: &mut [u8]) -> Desk {
+fn call(
+    q: Asked,
+    desk: Desk,
+    first: &mut [u32],
+    second: &mut [u32],
+    text: &mut [u8],
+    out: &mut [u8],
+) -> Desk {
     let cap = desks::count(desk.cap, first.len());
     let cap2 = desks::count(desk.cap2, second.len());
     let slots = &mut first[0..cap];
     let theirs = &mut second[0..cap2];
     let at = desks::least(170 + 9 * cap + 9 * cap2, out.len());
-    let did = calls::call(q, desk, slots, theirs, &mut out[at..]);
+    let did = calls::call(q, desk, slots, theirs, text, &mut out[at..]);
     let left = did.desk;
     let shown = did.shown;
     prints::print(did, slots, theirs, out);
@@ -46,12 +54,19 @@ fn write(out: &[u8], at: usize, shown: usize) {
 }
 
 // What a line leaves on the desk, once what it prints is written.
-fn answer(line: &[u8], desk: Desk, first: &mut [u32], second: &mut [u32], out: &mut [u8]) -> Desk
-    ensures { λ r. ⌜ (takes (now (line .entry)) (desk .cap) (desk .cap2) ≡ false → (r ≡ desk) × (now (first .exit) ≡ now (first .entry)) × (now (second .exit) ≡ now (second .entry))) ⌝ }
+fn answer(
+    line: &[u8],
+    desk: Desk,
+    first: &mut [u32],
+    second: &mut [u32],
+    text: &mut [u8],
+    out: &mut [u8],
+) -> Desk
+    ensures { λ r. ⌜ (takes (now (line .entry)) (desk .cap) (desk .cap2) (desk .size) ≡ false → (r ≡ desk) × (now (first .exit) ≡ now (first .entry)) × (now (second .exit) ≡ now (second .entry)) × (now (text .exit) ≡ now (text .entry))) ⌝ }
 {
-    match lines::judge(line, desk.cap, desk.cap2) {
-        Verdict::Placing(q) => desks::place(q, desk, first, second),
-        Verdict::Call(q) => call(q, desk, first, second, out),
+    match lines::judge(line, desk.cap, desk.cap2, desk.size) {
+        Verdict::Placing(q) => desks::place(q, desk, first, second, text),
+        Verdict::Call(q) => call(q, desk, first, second, text, out),
         Verdict::Damaged => untaken(desk, b"! not 34 lower-case hexadecimal digits\n"),
         Verdict::Unknown => untaken(desk, b"! no such operation\n"),
         Verdict::Beyond => untaken(desk, b"! out of reach\n"),
@@ -82,6 +97,7 @@ fn byte(
     line: &mut [u8],
     first: &mut [u32],
     second: &mut [u32],
+    text: &mut [u8],
     out: &mut [u8],
 ) -> Begun {
     if b != b'\n' {
@@ -89,7 +105,7 @@ fn byte(
     }
     let desk = s.desk;
     let n = desks::least(s.count, line.len());
-    let left = answer(&line[0..n], desk, first, second, out);
+    let left = answer(&line[0..n], desk, first, second, text, out);
     Begun {
         desk: left,
         count: 0,
@@ -104,29 +120,37 @@ fn feed(
     line: &mut [u8],
     first: &mut [u32],
     second: &mut [u32],
+    text: &mut [u8],
     out: &mut [u8],
 ) -> Begun {
     let mut s = begun;
     let mut i = 0;
     while i < part.len() {
-        s = byte(s, part[i], line, first, second, out);
+        s = byte(s, part[i], line, first, second, text, out);
         i += 1;
     }
     s
 }
 
 // One read, and what it is answered.
-fn turn(s: Begun, line: &mut [u8], first: &mut [u32], second: &mut [u32], out: &mut [u8]) -> Begun {
+fn turn(
+    s: Begun,
+    line: &mut [u8],
+    first: &mut [u32],
+    second: &mut [u32],
+    text: &mut [u8],
+    out: &mut [u8],
+) -> Begun {
     let mut buf = io::large_buffer();
     let got = libc::read(STDIN_FILENO, &mut buf);
     let n = io::count(got, &buf);
-    let mut now = feed(s, &buf[..n], line, first, second, out);
+    let mut now = feed(s, &buf[..n], line, first, second, text, out);
     now.more = 0 < n;
     now
 }
 
 // A proved loop has to end: the turns are counted down from a number that no run uses up. The last line counts where it has no LF and isn't empty.
-fn run(line: &mut [u8], first: &mut [u32], second: &mut [u32], out: &mut [u8]) {
+fn run(line: &mut [u8], first: &mut [u32], second: &mut [u32], text: &mut [u8], out: &mut [u8]) {
     let mut s = Begun {
         desk: desks::cleared(),
         count: 0,
@@ -135,12 +159,12 @@ fn run(line: &mut [u8], first: &mut [u32], second: &mut [u32], out: &mut [u8]) {
     let mut turns = u64::MAX;
     let mut more = true;
     while 0 < turns && more {
-        s = turn(s, line, first, second, out);
+        s = turn(s, line, first, second, text, out);
         more = s.more;
         turns -= 1;
     }
     if 0 < s.count {
-        byte(s, b'\n', line, first, second, out);
+        byte(s, b'\n', line, first, second, text, out);
     }
 }
 
@@ -148,6 +172,7 @@ fn main() {
     let mut line = [0u8; 35]; // one byte above 34 tells that a line is too long
     let mut first = [0u32; 4200];
     let mut second = [0u32; 4200];
+    let mut text = [0u8; 40000];
     let mut out = [0u8; 115771]; // the answer line of 170, 9 bytes for each of 4,200 slots twice, a text of 40,000 and its LF
-    run(&mut line, &mut first, &mut second, &mut out);
+    run(&mut line, &mut first, &mut second, &mut text, &mut out);
 }

@@ -7,12 +7,12 @@ use Rattle.replay.proofs.feed.Statement.{statement}
 use Rattle.replay.proofs.feed.Tie as tie
 
 abbrev Inv-loop : tie.InvT-loop
-Inv-loop part line₀ first₀ second₀ out₀ s₀ i₀ line first second out s i =
+Inv-loop part line₀ first₀ second₀ text₀ out₀ s₀ i₀ line first second text out s i =
     (length part < 0x1_0000_0000_0000_0000) × (length line ≡ length line₀)
-    × (length first ≡ length first₀) × (length second ≡ length second₀) × (length out ≡ length out₀)
+    × (length first ≡ length first₀) × (length second ≡ length second₀) × (length text ≡ length text₀) × (length out ≡ length out₀)
 
 abbrev μ-loop : tie.MeasureT-loop
-μ-loop part line₀ first₀ second₀ out₀ s₀ i₀ line first second out s i = length part - i
+μ-loop part line₀ first₀ second₀ text₀ out₀ s₀ i₀ line first second text out s i = length part - i
 
 pub feed-spec : {M : Type 1} → statement M
 feed-spec =
@@ -23,6 +23,7 @@ feed-spec =
     (λ c. search needs)
     (λ c. search needs)
     (λ c κs. search needs)
+    (λ c. search needs)
     (λ c. search needs)
     (λ c. search needs)
     (λ c. search needs)

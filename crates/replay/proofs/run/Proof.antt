@@ -6,11 +6,11 @@ use Rattle.replay.proofs.run.Statement.{statement}
 use Rattle.replay.proofs.run.Tie as tie
 
 abbrev Inv-loop : tie.InvT-loop
-Inv-loop line₀ first₀ second₀ out₀ s₀ turns₀ more₀ line first second out s turns more =
-    (length line ≡ length line₀) × (length first ≡ length first₀) × (length second ≡ length second₀) × (length out ≡ length out₀)
+Inv-loop line₀ first₀ second₀ text₀ out₀ s₀ turns₀ more₀ line first second text out s turns more =
+    (length line ≡ length line₀) × (length first ≡ length first₀) × (length second ≡ length second₀) × (length text ≡ length text₀) × (length out ≡ length out₀)
 
 abbrev μ-loop : tie.MeasureT-loop
-μ-loop line₀ first₀ second₀ out₀ s₀ turns₀ more₀ line first second out s turns more = turns
+μ-loop line₀ first₀ second₀ text₀ out₀ s₀ turns₀ more₀ line first second text out s turns more = turns
 
 pub run-spec : {M : Type 1} → statement M
 run-spec =
@@ -25,6 +25,8 @@ run-spec =
     (λ c. search needs)
     (λ c. search needs)
     (λ c κs. search needs)
+    (λ c. search needs)
+    (λ c. search needs)
     (λ c. search needs)
     (λ c. search needs)
     (λ c. search needs)

@@ -1,4 +1,4 @@
-# Two commands: `make test` is the gate, `make run` shows the programs `import` and `tray` at work. `make compare` and `make bench` hold the calls
+# Two commands: `make test` is the gate, `make run` shows the programs `import`, `show` and `tray` at work. `make compare` and `make bench` hold the calls
 # against Rust's (those on records against Python's), `make firmware` tries the C header, `make footprint` measures the archive. These four are no
 # part of the gate.
 .PHONY: test run bench compare firmware footprint
@@ -13,16 +13,20 @@ test:
 	@rt fmt --check
 	@python3 tools/tray-model <crates/tray/stdin | cmp - crates/tray/stdout
 	@python3 tools/import-model <crates/import/stdin | cmp - crates/import/stdout
+	@python3 tools/show-model <crates/show/stdin | cmp - crates/show/stdout
 	@python3 tools/ci
 
-# First the program import on a worklist whose names have commas, quotes and a line break in them, then tray on paper 01's listing: its answers, and
-# beside them what they say. What rt says goes to stderr. Programs are compiled for x86-64; on another processor rt has run tray under its emulator,
+# First the program import on a worklist whose names have commas, quotes and a line break in them, then show on the stored text of a tray, then tray on
+# paper 01's listing: its answers, and beside them what they say. What rt says goes to stderr. Programs are compiled for x86-64; on another processor rt has run tray under its emulator,
 # and the log has the same lines. The listing is the first LISTING lines of crates/tray/stdin; the gate's further cases come after it.
 LISTING = 7
 run:
-	@rt check import tray >&2
+	@rt check import show tray >&2
 	@echo "import <examples/worklist.csv"
 	@python3 tools/import <examples/worklist.csv
+	@echo
+	@echo "show <examples/tray.stored"
+	@python3 tools/show <examples/tray.stored
 	@echo
 	@if [ "$$(uname -m)" = x86_64 ]; then target/bin/tray <crates/tray/stdin; else cat target/log/tray.stdout; fi | head -n $(LISTING) | python3 tools/show-run crates/tray/stdin
 

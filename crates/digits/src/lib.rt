@@ -36,7 +36,7 @@ pub fn put_hex(text: &mut [u8], at: usize, count: usize, x: u64)
 }
 
 // Whether a byte is no lower-case hexadecimal digit.
-fn no_digit(b: u8) -> bool
+pub fn no_digit(b: u8) -> bool
     ensures { λ r. ⌜ r ≡ not (isDigit b) ⌝ }
 {
     !(((48 <= b) & (b < 58)) | ((97 <= b) & (b < 103)))

@@ -17,7 +17,7 @@ use Rattle.record.specs.Undone.{undone, part}
 use Rattle.record.specs.Unquoted.{Unquoted, unquoted, before, Unquotes, unquotes}
 use Rattle.record.specs.Recorded.{longest, told, judges}
 use Rattle.import.specs.Lines.{fieldLine}
-use Rattle.import.specs.Wrote.{Wrote}
+use Rattle.words.specs.Wrote.{Wrote}
 use Rattle.record.proofs.Laws.Inside.{place-inside}
 use Rattle.record.proofs.Theorems.Sound.{sound}
 use Rattle.record.proofs.Theorems.Decided.{ReadsLine, Used, used, Ended, byLine, byText, ended}

@@ -1,6 +1,5 @@
 -- The laws behind what `import` promises.
 pub mod Writing
-pub mod Decimals
 pub mod Lines
 pub mod Spots
 pub mod Settling

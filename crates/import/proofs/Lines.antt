@@ -1,21 +1,15 @@
 -- The lines of `import`, put together from the pieces that the code writes one behind another.
-use mathlib.Core.Path.{_≡_, sym, _∙_}
-use mathlib.Core.List.{List, [], _++_}
+use mathlib.Core.Path.{_≡_}
+use mathlib.Core.List.{List}
 use Prim.Native.Nat.{ℕ}
 use borrow.Author.Tests.{eq-eqb, ne-eqb}
-use lib.ListN.{take}
-use Rattle.io.specs.Digits.{digits, Fewest}
-use Rattle.import.specs.Words.{bytes, decimal}
-use Rattle.import.specs.Lines.{shown, allShown, fieldLine, numbered, several, otherThan, recordLine, why, place, refusedLine, counts, endWords, lastLine}
-use Rattle.import.specs.Wrote.{Wrote}
-use Rattle.import.proofs.Decimals.{digits-decimal}
-use Rattle.import.proofs.Writing.{wrote-none, wrote-then}
+use Rattle.words.specs.Words.{bytes, decimal, numbered, several}
+use Rattle.import.specs.Lines.{allShown, fieldLine, otherThan, recordLine, why, place, refusedLine, counts, endWords, lastLine}
+use Rattle.words.specs.Wrote.{Wrote}
+use Rattle.words.proofs.Writing.{wrote-none, wrote-then}
 
 -- a is the text before, at the place; b, c and so on are the text after each piece, m, m2 and so on the places behind them
 module _ {a b : List ℕ} {at m : ℕ} where
-  pub decimal-wrote : (t : List ℕ) (n k : ℕ) → Wrote a at (take k t) m b → take k t ≡ digits 10 k n → Fewest 10 1 n k → Wrote a at (decimal n) m b
-  decimal-wrote t n k p e f = rw (← digits-decimal k n f, ← e) p
-
   pub why-9 : (number : ℕ) → Wrote a at (bytes "not allowed outside quotes (9)") m b → number ≡ 9 → Wrote a at (why number) m b
   unfolding why
   why-9 number p e = rw (eq-eqb number 9 e) p
@@ -57,10 +51,6 @@ module _ {a b c : List ℕ} {at m m2 : ℕ} where
   unfolding otherThan
   other-wrote k first p q n = rw (ne-eqb k first n) (wrote-then p q)
 
-  pub numbered-wrote : (n : ℕ) (words : List ℕ) → Wrote a at (decimal n) m b → Wrote b m words m2 c → Wrote a at (numbered n words) m2 c
-  unfolding numbered
-  numbered-wrote n words p q = wrote-then p q
-
   pub place-wrote : (line byte : ℕ) → Wrote a at (numbered line (bytes ", byte ")) m b → Wrote b m (numbered byte (bytes ": ")) m2 c → Wrote a at (place line byte) m2 c
   unfolding place
   place-wrote line byte p q = wrote-then p q
@@ -80,16 +70,7 @@ module _ {a b c d : List ℕ} {at m m2 m3 : ℕ} where
   unfolding counts
   counts-others records first others p q r n n2 = rw (ne-eqb records 0 n, ne-eqb others 0 n2) (wrote-then p (wrote-then q r))
 
-  pub several-one : (n : ℕ) (what : List ℕ) → Wrote a at (decimal n) m b → Wrote b m (bytes " ") m2 c → Wrote c m2 what m3 d → n ≡ 1 → Wrote a at (several n what) m3 d
-  unfolding several
-  several-one n what p q r e = rw (eq-eqb n 1 e) (wrote-then p (wrote-then q (wrote-then r wrote-none)))
-
   module _ {f : List ℕ} {m4 : ℕ} where
-    pub several-more : (n : ℕ) (what : List ℕ) → Wrote a at (decimal n) m b → Wrote b m (bytes " ") m2 c → Wrote c m2 what m3 d → Wrote d m3 (bytes "s") m4 f → (n ≡ 1 → ⊥)
-        → Wrote a at (several n what) m4 f
-    unfolding several
-    several-more n what p q r s other = rw (ne-eqb n 1 other) (wrote-then p (wrote-then q (wrote-then r s)))
-
     pub last-wrote : (records first others ending : ℕ) → Wrote a at (several records (bytes "record")) m b → Wrote b m (counts records first others) m2 c
         → Wrote c m2 (endWords ending) m3 d → Wrote d m3 (bytes "\n") m4 f → Wrote a at (lastLine records first others ending) m4 f
     unfolding lastLine

@@ -4,7 +4,7 @@ use mathlib.Core.Bool.{cond, _||_}
 use mathlib.Core.List.{List, [], _∷_, _++_}
 use lib.Dec.{ltb, eqb}
 use Rattle.digits.specs.Hex.{hex}
-use Rattle.import.specs.Words.{bytes, decimal}
+use Rattle.words.specs.Words.{bytes, decimal, numbered, several}
 
 -- A byte that would move the cursor, 7f and the backslash: as \x and two digits. All others as they are.
 unfoldable pub shown : (b : ℕ) → List ℕ
@@ -17,13 +17,6 @@ allShown (b ∷ s) = shown b ++ allShown s
 -- a field, by its own bytes
 unfoldable pub fieldLine : (s : List ℕ) → List ℕ
 fieldLine s = bytes "    " ++ (allShown s ++ bytes "\n")
-
--- a number, and words right behind it; so many of something
-unfoldable pub numbered : (n : ℕ) (words : List ℕ) → List ℕ
-numbered n words = decimal n ++ words
-
-unfoldable pub several : (n : ℕ) (what : List ℕ) → List ℕ
-several n what = decimal n ++ (bytes " " ++ (what ++ cond (eqb n 1) [] (bytes "s")))
 
 -- record n has k fields; the first had so many
 unfoldable pub otherThan : (k first : ℕ) → List ℕ

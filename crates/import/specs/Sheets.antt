@@ -12,7 +12,7 @@ use Rattle.import.specs.declared.Sheet.{Sheet}
 use Rattle.import.specs.declared.Taken.{Taken}
 use Rattle.import.specs.declared.Stand.{Stand}
 use Rattle.import.specs.Lines.{fieldLine}
-use Rattle.import.specs.Wrote.{Wrote}
+use Rattle.words.specs.Wrote.{Wrote}
 
 -- nothing is counted more often than bytes were passed
 pub record Sane (s : Sheet) : Type 0 where

@@ -130,7 +130,7 @@ fn begin(window: &[u8], out: &mut [u8]) -> Taken
     ensures { λ r. ⌜ Begun (length (now (window .entry))) (length (now (out .entry))) r ⌝ }
 {
     if counts::marked(window) {
-        let at = prints::put_text(b"byte-order mark skipped\n", out, 0);
+        let at = words::put_text(b"byte-order mark skipped\n", out, 0);
         return started(3, at);
     }
     started(0, 0)

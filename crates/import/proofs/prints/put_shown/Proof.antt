@@ -3,7 +3,8 @@ use Prim.Native.Nat.{_+_, _*_, _-_, _≤_}
 use borrow.Author.Needs.{needs}
 use lib.ListN.{length, drop}
 use Rattle.import.specs.Lines.{allShown}
-use Rattle.import.proofs.Writing.{Left, left-all, shown-turn, shown-end}
+use Rattle.words.proofs.Writing.{Left, left-all}
+use Rattle.import.proofs.Writing.{shown-turn, shown-end}
 use Rattle.import.proofs.prints.put_shown.Statement.{statement}
 use Rattle.import.proofs.prints.put_shown.Tie as tie
 

@@ -6,7 +6,7 @@ use Prim.Native.Nat.{ℕ, zero, suc, _+_, _-_, _*_, _/_, _%_, _^_, _≤_, _<_}
 use native.Mathlib.Nat.{pow-suc, pow-le-pow-right, not-suc-le-zero, le-of-suc-le-suc, mod-eq-of-lt}
 use native.Mathlib.Numerals.{add-one}
 use native.Mathlib.Omega.{arith}
-use borrow.Author.Tests.{leb-true, leb-false, ltb-true, ltb-false, not-true, not-false, le-leb, lt-leb}
+use borrow.Author.Tests.{leb-true, leb-false, ltb-true, ltb-false, le-leb, lt-leb}
 use lib.Dec.{leb, ltb}
 use lib.ListN.{length, getD, drop, drop-of-length-le}
 use lib.Seq.{drop-cons}
@@ -19,10 +19,6 @@ left s i h = rw (add-one, drop-cons s i 0)
 
 none-left : (s : List ℕ) (i : ℕ) → length s ≤ i → drop i s ≡ []
 none-left s i h = drop-of-length-le s {i = i} h
-
--- what the code's test of a byte tells
-pub is-digit : (b : ℕ) (d : Bool) → d ≡ not (isDigit b) → d ≡ false → isDigit b ≡ true
-is-digit b d e good = not-false _ (sym e ∙ good)
 
 -- the two halves of a test that holds
 pub and-left : (a b : Bool) → a && b ≡ true → a ≡ true

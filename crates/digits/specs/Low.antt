@@ -5,7 +5,7 @@ use mathlib.Core.List.{List, [], _∷_}
 use lib.Dec.{leb}
 use lib.ListN.{length}
 
--- 0 to 9 are 30 to 39 and a to f 61 to 66: the low four bits, and nine more where bit 6 is set
+-- 0 to 9 are 30 to 39 and a to f 61 to 66: the low four bits, and nine more for a letter, which has bit 6
 abbrev pub lowOf : (b : ℕ) → ℕ
 lowOf b = (b % 16 + 9 * (b / 64)) % 16
 

@@ -3,21 +3,21 @@ use mathlib.Core.Path.{◌≡◌, refl, sym}
 use Prim.Native.Nat.{ℕ}
 use Rattle.slots.specs.Layout.{Kind}
 use Rattle.table.specs.Tray.{Tray, Cursor}
-use Rattle.table.specs.Calls.{look, stepFront, stepBack, peekFront, peekBack}
+use Rattle.table.specs.Calls.{look, step_front, step_back, peek_front, peek_back}
 use Rattle.table.specs.Reported.{reported}
-use Rattle.table.proofs.Theorems.Reported.{reports-none}
+use Rattle.table.proofs.Theorems.Reported.{reports_none}
 use Rattle.cursors.specs.declared.Step.{Step}
-use Rattle.cursors.specs.Seen.{slotIn}
+use Rattle.cursors.specs.Seen.{slot_in}
 
 module _ (k : Kind) (u : Cursor) (t : Tray) (s : Step) where
-  pub step-front-lamp : slotIn s ≡ reported k (look (stepFront u)) t
-  step-front-lamp = sym (reports-none k (look (stepFront u)) t _ refl refl)
+  pub step_front_lamp : slot_in s ≡ reported k (look (step_front u)) t
+  step_front_lamp = sym (reports_none k (look (step_front u)) t _ refl refl)
 
-  pub step-back-lamp : slotIn s ≡ reported k (look (stepBack u)) t
-  step-back-lamp = sym (reports-none k (look (stepBack u)) t _ refl refl)
+  pub step_back_lamp : slot_in s ≡ reported k (look (step_back u)) t
+  step_back_lamp = sym (reports_none k (look (step_back u)) t _ refl refl)
 
-  pub peek-front-lamp : (m : ℕ) → slotIn s ≡ reported k (look (peekFront u m)) t
-  peek-front-lamp m = sym (reports-none k (look (peekFront u m)) t _ refl refl)
+  pub peek_front_lamp : (m : ℕ) → slot_in s ≡ reported k (look (peek_front u m)) t
+  peek_front_lamp m = sym (reports_none k (look (peek_front u m)) t _ refl refl)
 
-  pub peek-back-lamp : (m : ℕ) → slotIn s ≡ reported k (look (peekBack u m)) t
-  peek-back-lamp m = sym (reports-none k (look (peekBack u m)) t _ refl refl)
+  pub peek_back_lamp : (m : ℕ) → slot_in s ≡ reported k (look (peek_back u m)) t
+  peek_back_lamp m = sym (reports_none k (look (peek_back u m)) t _ refl refl)

@@ -41,14 +41,14 @@ read_back (Ended u) t = refl
 one : (o : Outcome) (r r' : Step) (t t' : Tray) → seen r t ≡ o → seen r' t' ≡ o → r ≡ r'
 one o r r' t t' p q = sym (read_back r t) ∙ ap (λ (o : Outcome). answer o.number o.value (again o.cursor)) (p ∙ sym q) ∙ read_back r' t'
 
-one-begun : {k : Kind} {call : Call} {t : Tray} (r r' : Begun) → Starts k call t r → Starts k call t r' → r ≡ r'
+one_begun : {k : Kind} {call : Call} {t : Tray} (r r' : Begun) → Starts k call t r → Starts k call t r' → r ≡ r'
 unfolding again
-one-begun r r' p q = ap₂ (λ (o : Outcome) n. record { number = o.number; slot = n; cursor = again o.cursor }) (p.row ∙ sym q.row) (p.slot ∙ sym q.slot)
+one_begun r r' p q = ap₂ (λ (o : Outcome) n. record { number = o.number; slot = n; cursor = again o.cursor }) (p.row ∙ sym q.row) (p.slot ∙ sym q.slot)
 
-one-into : {k : Kind} {call : Call2} {t : Tray} {w : Vector} {z : List ℕ} (r r' : Taken) (s2 s2' : List ℕ) → Takes k call t w z r s2 → Takes k call t w z r' s2'
+one_into : {k : Kind} {call : Call2} {t : Tray} {w : Vector} {z : List ℕ} (r r' : Taken) (s2 s2' : List ℕ) → Takes k call t w z r s2 → Takes k call t w z r' s2'
     → (r ≡ r') × (s2 ≡ s2')
 unfolding again
-one-into r r' s2 s2' p q =
+one_into r r' s2 s2' p q =
     let rows = p.row ∙ sym q.row in
     let beside = ap₂ {C = ℕ × ℕ} (λ n m. (n, m)) (p.slot ∙ sym q.slot) (p.total ∙ sym q.total) in (
       ap₂ (λ (o : Outcome2) (b : ℕ × ℕ). record { number = o.number; slot = b.0; cursor = again o.cursor; vector = state o.second.len (record { sum = b.1 }) }) rows beside,
@@ -57,45 +57,45 @@ one-into r r' s2 s2' p q =
 
 -- In what follows a are the arguments, r and r' are results, and e and e' the arguments as they are at the return.
 module _ (κs : Lfts 1) where
-  pub ring-iter-once : Twice fn.ring_iter.ended κs (fn.ring_iter.Reads.Learnt κs) (λ r e r' e'. r ≡ r')
-  ring-iter-once a r r' e e' p q = one-begun r r' p q
+  pub ring_iter_once : Twice fn.ring_iter.ended κs (fn.ring_iter.Reads.Learnt κs) (λ r e r' e'. r ≡ r')
+  ring_iter_once a r r' e e' p q = one_begun r r' p q
 
-  pub ring-into-iter-once : Twice fn.ring_into_iter.ended κs (fn.ring_into_iter.Reads.Learnt κs) (λ r e r' e'. r ≡ r')
-  ring-into-iter-once a r r' e e' p q = one-begun r r' p q
+  pub ring_into_iter_once : Twice fn.ring_into_iter.ended κs (fn.ring_into_iter.Reads.Learnt κs) (λ r e r' e'. r ≡ r')
+  ring_into_iter_once a r r' e e' p q = one_begun r r' p q
 
-  pub ring-step-front-once : Twice fn.ring_step_front.ended κs (fn.ring_step_front.Reads.Learnt κs) (λ r e r' e'. r ≡ r')
-  ring-step-front-once a r r' e e' p q = one _ r r' _ _ p q
+  pub ring_step_front_once : Twice fn.ring_step_front.ended κs (fn.ring_step_front.Reads.Learnt κs) (λ r e r' e'. r ≡ r')
+  ring_step_front_once a r r' e e' p q = one _ r r' _ _ p q
 
-  pub ring-step-back-once : Twice fn.ring_step_back.ended κs (fn.ring_step_back.Reads.Learnt κs) (λ r e r' e'. r ≡ r')
-  ring-step-back-once a r r' e e' p q = one _ r r' _ _ p q
+  pub ring_step_back_once : Twice fn.ring_step_back.ended κs (fn.ring_step_back.Reads.Learnt κs) (λ r e r' e'. r ≡ r')
+  ring_step_back_once a r r' e e' p q = one _ r r' _ _ p q
 
-  pub ring-peek-front-once : Twice fn.ring_peek_front.ended κs (fn.ring_peek_front.Reads.Learnt κs) (λ r e r' e'. r ≡ r')
-  ring-peek-front-once a r r' e e' p q = one _ r r' _ _ p q
+  pub ring_peek_front_once : Twice fn.ring_peek_front.ended κs (fn.ring_peek_front.Reads.Learnt κs) (λ r e r' e'. r ≡ r')
+  ring_peek_front_once a r r' e e' p q = one _ r r' _ _ p q
 
-  pub ring-peek-back-once : Twice fn.ring_peek_back.ended κs (fn.ring_peek_back.Reads.Learnt κs) (λ r e r' e'. r ≡ r')
-  ring-peek-back-once a r r' e e' p q = one _ r r' _ _ p q
+  pub ring_peek_back_once : Twice fn.ring_peek_back.ended κs (fn.ring_peek_back.Reads.Learnt κs) (λ r e r' e'. r ≡ r')
+  ring_peek_back_once a r r' e e' p q = one _ r r' _ _ p q
 
-  pub vector-iter-once : Twice fn.vector_iter.ended κs (fn.vector_iter.Reads.Learnt κs) (λ r e r' e'. r ≡ r')
-  vector-iter-once a r r' e e' p q = one-begun r r' p q
+  pub vector_iter_once : Twice fn.vector_iter.ended κs (fn.vector_iter.Reads.Learnt κs) (λ r e r' e'. r ≡ r')
+  vector_iter_once a r r' e e' p q = one_begun r r' p q
 
-  pub vector-into-iter-once : Twice fn.vector_into_iter.ended κs (fn.vector_into_iter.Reads.Learnt κs) (λ r e r' e'. r ≡ r')
-  vector-into-iter-once a r r' e e' p q = one-begun r r' p q
+  pub vector_into_iter_once : Twice fn.vector_into_iter.ended κs (fn.vector_into_iter.Reads.Learnt κs) (λ r e r' e'. r ≡ r')
+  vector_into_iter_once a r r' e e' p q = one_begun r r' p q
 
-  pub vector-step-front-once : Twice fn.vector_step_front.ended κs (fn.vector_step_front.Reads.Learnt κs) (λ r e r' e'. r ≡ r')
-  vector-step-front-once a r r' e e' p q = one _ r r' _ _ p q
+  pub vector_step_front_once : Twice fn.vector_step_front.ended κs (fn.vector_step_front.Reads.Learnt κs) (λ r e r' e'. r ≡ r')
+  vector_step_front_once a r r' e e' p q = one _ r r' _ _ p q
 
-  pub vector-step-back-once : Twice fn.vector_step_back.ended κs (fn.vector_step_back.Reads.Learnt κs) (λ r e r' e'. r ≡ r')
-  vector-step-back-once a r r' e e' p q = one _ r r' _ _ p q
+  pub vector_step_back_once : Twice fn.vector_step_back.ended κs (fn.vector_step_back.Reads.Learnt κs) (λ r e r' e'. r ≡ r')
+  vector_step_back_once a r r' e e' p q = one _ r r' _ _ p q
 
-  pub vector-peek-front-once : Twice fn.vector_peek_front.ended κs (fn.vector_peek_front.Reads.Learnt κs) (λ r e r' e'. r ≡ r')
-  vector-peek-front-once a r r' e e' p q = one _ r r' _ _ p q
+  pub vector_peek_front_once : Twice fn.vector_peek_front.ended κs (fn.vector_peek_front.Reads.Learnt κs) (λ r e r' e'. r ≡ r')
+  vector_peek_front_once a r r' e e' p q = one _ r r' _ _ p q
 
-  pub vector-peek-back-once : Twice fn.vector_peek_back.ended κs (fn.vector_peek_back.Reads.Learnt κs) (λ r e r' e'. r ≡ r')
-  vector-peek-back-once a r r' e e' p q = one _ r r' _ _ p q
+  pub vector_peek_back_once : Twice fn.vector_peek_back.ended κs (fn.vector_peek_back.Reads.Learnt κs) (λ r e r' e'. r ≡ r')
+  vector_peek_back_once a r r' e e' p q = one _ r r' _ _ p q
 
 module _ (κs : Lfts 2) where
-  pub ring-from-iter-once : Twice fn.ring_from_iter.ended κs (fn.ring_from_iter.Reads.Learnt κs) (λ r e r' e'. (r ≡ r') × (e.1.1.1.1.0.now ≡ e'.1.1.1.1.0.now))
-  ring-from-iter-once a r r' e e' p q = one-into r r' _ _ p q
+  pub ring_from_iter_once : Twice fn.ring_from_iter.ended κs (fn.ring_from_iter.Reads.Learnt κs) (λ r e r' e'. (r ≡ r') × (e.1.1.1.1.0.now ≡ e'.1.1.1.1.0.now))
+  ring_from_iter_once a r r' e e' p q = one_into r r' _ _ p q
 
-  pub vector-from-iter-once : Twice fn.vector_from_iter.ended κs (fn.vector_from_iter.Reads.Learnt κs) (λ r e r' e'. (r ≡ r') × (e.1.1.1.1.0.now ≡ e'.1.1.1.1.0.now))
-  vector-from-iter-once a r r' e e' p q = one-into r r' _ _ p q
+  pub vector_from_iter_once : Twice fn.vector_from_iter.ended κs (fn.vector_from_iter.Reads.Learnt κs) (λ r e r' e'. (r ≡ r') × (e.1.1.1.1.0.now ≡ e'.1.1.1.1.0.now))
+  vector_from_iter_once a r r' e e' p q = one_into r r' _ _ p q

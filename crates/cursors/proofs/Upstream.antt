@@ -17,62 +17,62 @@ use Rattle.cursors.specs.declared.Cursor.{Cursor}
 use Rattle.cursors.specs.declared.Begun.{Begun}
 use Rattle.cursors.specs.declared.Taken.{Taken}
 use Rattle.cursors.specs.declared.Step.{Step}
-use Rattle.cursors.specs.Seen.{cursor, seen, seenBegun, seenInto}
+use Rattle.cursors.specs.Seen.{cursor, seen, seen_begun, seen_into}
 use Rattle.cursors.proofs.Cursor as fn
 
 -- In what follows v and s are the container that is walked over and its slots, u is the cursor given, w and z are T and its slots, r is the result, and e
 -- the arguments as they are at the return: `e.1.1.1.1.0` are T's slots then.
 module _ (κs : Lfts 1) (v : Ring) (s : Bor (List ℕ)) where
-  pub ring-iter : (r : Begun) (e : AtExit fn.ring_iter.ended κs) → fn.ring_iter.Reads.Learnt κs (v, (s, tt)) r e
-      → Begins ring (rings.tray v s.now) (seenBegun r (rings.tray v s.now))
-  ring-iter r e learnt = law.iter-begins ring _ _ learnt.row
+  pub ring_iter : (r : Begun) (e : AtExit fn.ring_iter.ended κs) → fn.ring_iter.Reads.Learnt κs (v, (s, tt)) r e
+      → Begins ring (rings.tray v s.now) (seen_begun r (rings.tray v s.now))
+  ring_iter r e learnt = law.iter_begins ring _ _ learnt.row
 
-  pub ring-step-front : (u : Cursor) (r : Step) (e : AtExit fn.ring_step_front.ended κs) → fn.ring_step_front.Reads.Learnt κs (u, (v, (s, tt))) r e
+  pub ring_step_front : (u : Cursor) (r : Step) (e : AtExit fn.ring_step_front.ended κs) → fn.ring_step_front.Reads.Learnt κs (u, (v, (s, tt))) r e
       → StepsFront ring (rings.tray v s.now) (cursor u) (seen r (rings.tray v s.now))
-  ring-step-front u r e = law.front-steps ring _ _ _
+  ring_step_front u r e = law.front_steps ring _ _ _
 
-  pub ring-step-back : (u : Cursor) (r : Step) (e : AtExit fn.ring_step_back.ended κs) → fn.ring_step_back.Reads.Learnt κs (u, (v, (s, tt))) r e
+  pub ring_step_back : (u : Cursor) (r : Step) (e : AtExit fn.ring_step_back.ended κs) → fn.ring_step_back.Reads.Learnt κs (u, (v, (s, tt))) r e
       → StepsBack ring (rings.tray v s.now) (cursor u) (seen r (rings.tray v s.now))
-  ring-step-back u r e = law.back-steps ring _ _ _
+  ring_step_back u r e = law.back_steps ring _ _ _
 
-  pub ring-peek-front : (u : Cursor) (m : ℕ) (r : Step) (e : AtExit fn.ring_peek_front.ended κs) → fn.ring_peek_front.Reads.Learnt κs (u, (v, (s, (m, tt)))) r e
+  pub ring_peek_front : (u : Cursor) (m : ℕ) (r : Step) (e : AtExit fn.ring_peek_front.ended κs) → fn.ring_peek_front.Reads.Learnt κs (u, (v, (s, (m, tt)))) r e
       → PeeksFront ring (rings.tray v s.now) (cursor u) m (seen r (rings.tray v s.now))
-  ring-peek-front u m r e = law.front-peeks ring _ _ _ m
+  ring_peek_front u m r e = law.front_peeks ring _ _ _ m
 
-  pub ring-peek-back : (u : Cursor) (m : ℕ) (r : Step) (e : AtExit fn.ring_peek_back.ended κs) → fn.ring_peek_back.Reads.Learnt κs (u, (v, (s, (m, tt)))) r e
+  pub ring_peek_back : (u : Cursor) (m : ℕ) (r : Step) (e : AtExit fn.ring_peek_back.ended κs) → fn.ring_peek_back.Reads.Learnt κs (u, (v, (s, (m, tt)))) r e
       → PeeksBack ring (rings.tray v s.now) (cursor u) m (seen r (rings.tray v s.now))
-  ring-peek-back u m r e = law.back-peeks ring _ _ _ m
+  ring_peek_back u m r e = law.back_peeks ring _ _ _ m
 
 module _ (κs : Lfts 1) (v : Vector) (s : Bor (List ℕ)) where
-  pub vector-iter : (r : Begun) (e : AtExit fn.vector_iter.ended κs) → fn.vector_iter.Reads.Learnt κs (v, (s, tt)) r e
-      → Begins vector (vectors.tray v s.now) (seenBegun r (vectors.tray v s.now))
-  vector-iter r e learnt = law.iter-begins vector _ _ learnt.row
+  pub vector_iter : (r : Begun) (e : AtExit fn.vector_iter.ended κs) → fn.vector_iter.Reads.Learnt κs (v, (s, tt)) r e
+      → Begins vector (vectors.tray v s.now) (seen_begun r (vectors.tray v s.now))
+  vector_iter r e learnt = law.iter_begins vector _ _ learnt.row
 
-  pub vector-into-iter : (r : Begun) (e : AtExit fn.vector_into_iter.ended κs) → fn.vector_into_iter.Reads.Learnt κs (v, (s, tt)) r e
-      → Begins vector (vectors.tray v s.now) (seenBegun r (vectors.tray v s.now))
-  vector-into-iter r e learnt = law.into-iter-begins vector _ _ learnt.row
+  pub vector_into_iter : (r : Begun) (e : AtExit fn.vector_into_iter.ended κs) → fn.vector_into_iter.Reads.Learnt κs (v, (s, tt)) r e
+      → Begins vector (vectors.tray v s.now) (seen_begun r (vectors.tray v s.now))
+  vector_into_iter r e learnt = law.into_iter_begins vector _ _ learnt.row
 
-  pub vector-step-front : (u : Cursor) (r : Step) (e : AtExit fn.vector_step_front.ended κs) → fn.vector_step_front.Reads.Learnt κs (u, (v, (s, tt))) r e
+  pub vector_step_front : (u : Cursor) (r : Step) (e : AtExit fn.vector_step_front.ended κs) → fn.vector_step_front.Reads.Learnt κs (u, (v, (s, tt))) r e
       → StepsFront vector (vectors.tray v s.now) (cursor u) (seen r (vectors.tray v s.now))
-  vector-step-front u r e = law.front-steps vector _ _ _
+  vector_step_front u r e = law.front_steps vector _ _ _
 
-  pub vector-step-back : (u : Cursor) (r : Step) (e : AtExit fn.vector_step_back.ended κs) → fn.vector_step_back.Reads.Learnt κs (u, (v, (s, tt))) r e
+  pub vector_step_back : (u : Cursor) (r : Step) (e : AtExit fn.vector_step_back.ended κs) → fn.vector_step_back.Reads.Learnt κs (u, (v, (s, tt))) r e
       → StepsBack vector (vectors.tray v s.now) (cursor u) (seen r (vectors.tray v s.now))
-  vector-step-back u r e = law.back-steps vector _ _ _
+  vector_step_back u r e = law.back_steps vector _ _ _
 
-  pub vector-peek-front : (u : Cursor) (m : ℕ) (r : Step) (e : AtExit fn.vector_peek_front.ended κs) → fn.vector_peek_front.Reads.Learnt κs (u, (v, (s, (m, tt)))) r e
+  pub vector_peek_front : (u : Cursor) (m : ℕ) (r : Step) (e : AtExit fn.vector_peek_front.ended κs) → fn.vector_peek_front.Reads.Learnt κs (u, (v, (s, (m, tt)))) r e
       → PeeksFront vector (vectors.tray v s.now) (cursor u) m (seen r (vectors.tray v s.now))
-  vector-peek-front u m r e = law.front-peeks vector _ _ _ m
+  vector_peek_front u m r e = law.front_peeks vector _ _ _ m
 
-  pub vector-peek-back : (u : Cursor) (m : ℕ) (r : Step) (e : AtExit fn.vector_peek_back.ended κs) → fn.vector_peek_back.Reads.Learnt κs (u, (v, (s, (m, tt)))) r e
+  pub vector_peek_back : (u : Cursor) (m : ℕ) (r : Step) (e : AtExit fn.vector_peek_back.ended κs) → fn.vector_peek_back.Reads.Learnt κs (u, (v, (s, (m, tt)))) r e
       → PeeksBack vector (vectors.tray v s.now) (cursor u) m (seen r (vectors.tray v s.now))
-  vector-peek-back u m r e = law.back-peeks vector _ _ _ m
+  vector_peek_back u m r e = law.back_peeks vector _ _ _ m
 
 module _ (κs : Lfts 2) (u : Cursor) (s z : Bor (List ℕ)) (w : Vector) (r : Taken) where
-  pub ring-from-iter : (v : Ring) (e : AtExit fn.ring_from_iter.ended κs) → fn.ring_from_iter.Reads.Learnt κs (u, (v, (s, (w, (z, tt))))) r e
-      → Fills ring vector (rings.tray v s.now) (vectors.tray w z.now) (cursor u) (seenInto r (rings.tray v s.now) e.1.1.1.1.0.now)
-  ring-from-iter v e learnt = law.from-iter-fills ring vector _ _ _ _ learnt.row
+  pub ring_from_iter : (v : Ring) (e : AtExit fn.ring_from_iter.ended κs) → fn.ring_from_iter.Reads.Learnt κs (u, (v, (s, (w, (z, tt))))) r e
+      → Fills ring vector (rings.tray v s.now) (vectors.tray w z.now) (cursor u) (seen_into r (rings.tray v s.now) e.1.1.1.1.0.now)
+  ring_from_iter v e learnt = law.from_iter_fills ring vector _ _ _ _ learnt.row
 
-  pub vector-from-iter : (v : Vector) (e : AtExit fn.vector_from_iter.ended κs) → fn.vector_from_iter.Reads.Learnt κs (u, (v, (s, (w, (z, tt))))) r e
-      → Fills vector vector (vectors.tray v s.now) (vectors.tray w z.now) (cursor u) (seenInto r (vectors.tray v s.now) e.1.1.1.1.0.now)
-  vector-from-iter v e learnt = law.from-iter-fills vector vector _ _ _ _ learnt.row
+  pub vector_from_iter : (v : Vector) (e : AtExit fn.vector_from_iter.ended κs) → fn.vector_from_iter.Reads.Learnt κs (u, (v, (s, (w, (z, tt))))) r e
+      → Fills vector vector (vectors.tray v s.now) (vectors.tray w z.now) (cursor u) (seen_into r (vectors.tray v s.now) e.1.1.1.1.0.now)
+  vector_from_iter v e learnt = law.from_iter_fills vector vector _ _ _ _ learnt.row

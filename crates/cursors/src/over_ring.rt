@@ -1,7 +1,7 @@
 // A cursor's calls over a ring. Any cursor at all may be given: without front <= back <= n it is refused.
 ghost use Rattle.std.specs.Prelude.{◌≡◌};
 ghost use Rattle.slots.specs.Layout.{ring};
-ghost use Rattle.table.specs.Calls.{look, iter, intoIter, stepFront, stepBack, peekFront, peekBack, fromIter};
+ghost use Rattle.table.specs.Calls.{look, iter, into_iter, step_front, step_back, peek_front, peek_back, from_iter};
 ghost use Rattle.table.specs.Does.{does};
 ghost use Rattle.ring.specs.Seen.{tray};
 ghost use Rattle.cursors.specs.Seen.{cursor, seen, Starts, Takes};
@@ -23,13 +23,13 @@ impl Cursor {
     }
 
     pub fn ring_into_iter(over: Ring, slots: &[u32]) -> Begun
-        ensures { Starts ring (look intoIter) (tray over slots.now) result }
+        ensures { Starts ring (look into_iter) (tray over slots.now) result }
     {
         Cursor::ring_iter(over, slots)
     }
 
     pub fn ring_step_front(self, over: Ring, slots: &[u32]) -> Step
-        ensures { seen result (tray over slots.now) ≡ does ring (look (stepFront (cursor self))) (tray over slots.now) }
+        ensures { seen result (tray over slots.now) ≡ does ring (look (step_front (cursor self))) (tray over slots.now) }
     {
         let cap = slots.len();
         let head = over.head;
@@ -56,7 +56,7 @@ impl Cursor {
     }
 
     pub fn ring_step_back(self, over: Ring, slots: &[u32]) -> Step
-        ensures { seen result (tray over slots.now) ≡ does ring (look (stepBack (cursor self))) (tray over slots.now) }
+        ensures { seen result (tray over slots.now) ≡ does ring (look (step_back (cursor self))) (tray over slots.now) }
     {
         let cap = slots.len();
         let head = over.head;
@@ -83,7 +83,7 @@ impl Cursor {
     }
 
     pub fn ring_peek_front(self, over: Ring, slots: &[u32], k: usize) -> Step
-        ensures { seen result (tray over slots.now) ≡ does ring (look (peekFront (cursor self) k)) (tray over slots.now) }
+        ensures { seen result (tray over slots.now) ≡ does ring (look (peek_front (cursor self) k)) (tray over slots.now) }
     {
         let cap = slots.len();
         let head = over.head;
@@ -104,7 +104,7 @@ impl Cursor {
     }
 
     pub fn ring_peek_back(self, over: Ring, slots: &[u32], k: usize) -> Step
-        ensures { seen result (tray over slots.now) ≡ does ring (look (peekBack (cursor self) k)) (tray over slots.now) }
+        ensures { seen result (tray over slots.now) ≡ does ring (look (peek_back (cursor self) k)) (tray over slots.now) }
     {
         let cap = slots.len();
         let head = over.head;
@@ -126,7 +126,7 @@ impl Cursor {
 
     // The empty vector T gets the remaining entries, and the cursor ends. T may come with any total, which they are added to.
     pub fn ring_from_iter(self, over: Ring, slots: &[u32], to: Vector, theirs: &mut [u32]) -> Taken
-        ensures { Takes ring (fromIter (cursor self)) (tray over slots.now) to theirs.old result theirs.new }
+        ensures { Takes ring (from_iter (cursor self)) (tray over slots.now) to theirs.old result theirs.new }
     {
         let cap = slots.len();
         let head = over.head;

@@ -1,7 +1,7 @@
 // A cursor's calls over a vector. Any cursor at all may be given: without front <= back <= n it is refused.
 ghost use Rattle.std.specs.Prelude.{◌≡◌};
 ghost use Rattle.slots.specs.Layout.{vector};
-ghost use Rattle.table.specs.Calls.{look, iter, intoIter, stepFront, stepBack, peekFront, peekBack, fromIter};
+ghost use Rattle.table.specs.Calls.{look, iter, into_iter, step_front, step_back, peek_front, peek_back, from_iter};
 ghost use Rattle.table.specs.Does.{does};
 ghost use Rattle.vector.specs.Seen.{tray};
 ghost use Rattle.cursors.specs.Seen.{cursor, seen, Starts, Takes};
@@ -21,13 +21,13 @@ impl Cursor {
     }
 
     pub fn vector_into_iter(over: Vector, slots: &[u32]) -> Begun
-        ensures { Starts vector (look intoIter) (tray over slots.now) result }
+        ensures { Starts vector (look into_iter) (tray over slots.now) result }
     {
         Cursor::vector_iter(over, slots)
     }
 
     pub fn vector_step_front(self, over: Vector, slots: &[u32]) -> Step
-        ensures { seen result (tray over slots.now) ≡ does vector (look (stepFront (cursor self))) (tray over slots.now) }
+        ensures { seen result (tray over slots.now) ≡ does vector (look (step_front (cursor self))) (tray over slots.now) }
     {
         let cap = slots.len();
         let len = over.len;
@@ -53,7 +53,7 @@ impl Cursor {
     }
 
     pub fn vector_step_back(self, over: Vector, slots: &[u32]) -> Step
-        ensures { seen result (tray over slots.now) ≡ does vector (look (stepBack (cursor self))) (tray over slots.now) }
+        ensures { seen result (tray over slots.now) ≡ does vector (look (step_back (cursor self))) (tray over slots.now) }
     {
         let cap = slots.len();
         let len = over.len;
@@ -79,7 +79,7 @@ impl Cursor {
     }
 
     pub fn vector_peek_front(self, over: Vector, slots: &[u32], k: usize) -> Step
-        ensures { seen result (tray over slots.now) ≡ does vector (look (peekFront (cursor self) k)) (tray over slots.now) }
+        ensures { seen result (tray over slots.now) ≡ does vector (look (peek_front (cursor self) k)) (tray over slots.now) }
     {
         let cap = slots.len();
         let len = over.len;
@@ -99,7 +99,7 @@ impl Cursor {
     }
 
     pub fn vector_peek_back(self, over: Vector, slots: &[u32], k: usize) -> Step
-        ensures { seen result (tray over slots.now) ≡ does vector (look (peekBack (cursor self) k)) (tray over slots.now) }
+        ensures { seen result (tray over slots.now) ≡ does vector (look (peek_back (cursor self) k)) (tray over slots.now) }
     {
         let cap = slots.len();
         let len = over.len;
@@ -126,7 +126,7 @@ impl Cursor {
         to: Vector,
         theirs: &mut [u32],
     ) -> Taken
-        ensures { Takes vector (fromIter (cursor self)) (tray over slots.now) to theirs.old result theirs.new }
+        ensures { Takes vector (from_iter (cursor self)) (tray over slots.now) to theirs.old result theirs.new }
     {
         let cap = slots.len();
         let len = over.len;

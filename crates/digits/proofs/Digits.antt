@@ -10,8 +10,8 @@ use borrow.Author.Tests.{leb-true, leb-false, ltb-true, ltb-false, le-leb, lt-le
 use lib.Dec.{leb, ltb}
 use lib.ListN.{length, get_or, drop, drop_of_length-le}
 use lib.Seq.{drop-cons}
-use Rattle.digits.specs.Hex.{isDigit, areDigits, worth, saysFrom, says, number_in}
-use Rattle.digits.specs.Low.{low_of, lowsFrom, lowIn}
+use Rattle.digits.specs.Hex.{is_digit, are_digits, worth, says_from, says, number_in}
+use Rattle.digits.specs.Low.{low_of, lows_from, low_in}
 
 -- what is left from i on: one byte, and what is left from i + 1 on
 left : (s : List ℕ) (i : ℕ) → i < length s → drop i s ≡ get_or s i 0 ∷ drop (i + 1) s
@@ -34,7 +34,7 @@ pub record Range (b : ℕ) : Type 0 where
   pub low : b < 58 → 48 ≤ b
   pub high : 58 ≤ b → (97 ≤ b) × (b < 103)
 
-pub range : (b : ℕ) → isDigit b ≡ true → Range b
+pub range : (b : ℕ) → is_digit b ≡ true → Range b
 range b e = go (leb 48 b && ltb b 58) refl e
   where
     go : (low : Bool) → leb 48 b && ltb b 58 ≡ low → low || (leb 97 b && ltb b 103) ≡ true → Range b
@@ -48,17 +48,17 @@ range b e = go (leb 48 b && ltb b 58) refl e
     }
 
 -- of a loop that tests all bytes: whether one was no digit, with those that are left, is always whether one of all is
-pub bad-turn : (s : List ℕ) (i : ℕ) (v bad d : Bool) → bad || not (areDigits (drop i s)) ≡ v → i < length s → d ≡ not (isDigit (get_or s i 0))
-    → (bad || d) || not (areDigits (drop (i + 1) s)) ≡ v
-bad-turn s i v bad d is h e = rw e (go bad (isDigit (get_or s i 0)) (areDigits (drop (i + 1) s))) ∙ sym (ap (λ l. bad || not (areDigits l)) (left s i h)) ∙ is
+pub bad_turn : (s : List ℕ) (i : ℕ) (v bad d : Bool) → bad || not (are_digits (drop i s)) ≡ v → i < length s → d ≡ not (is_digit (get_or s i 0))
+    → (bad || d) || not (are_digits (drop (i + 1) s)) ≡ v
+bad_turn s i v bad d is h e = rw e (go bad (is_digit (get_or s i 0)) (are_digits (drop (i + 1) s))) ∙ sym (ap (λ l. bad || not (are_digits l)) (left s i h)) ∙ is
   where
     go : (a b c : Bool) → (a || not b) || not c ≡ a || not (b && c)
     go true b c = refl
     go false true c = refl
     go false false c = refl
 
-pub bad-end : (s : List ℕ) (i : ℕ) (bad : Bool) → bad || not (areDigits (drop i s)) ≡ not (areDigits s) → length s ≤ i → not bad ≡ areDigits s
-bad-end s i bad is h = ap not (go bad ∙ sym (ap (λ l. bad || not (areDigits l)) (none_left s i h)) ∙ is) ∙ twice (areDigits s)
+pub bad_end : (s : List ℕ) (i : ℕ) (bad : Bool) → bad || not (are_digits (drop i s)) ≡ not (are_digits s) → length s ≤ i → not bad ≡ are_digits s
+bad_end s i bad is h = ap not (go bad ∙ sym (ap (λ l. bad || not (are_digits l)) (none_left s i h)) ∙ is) ∙ twice (are_digits s)
   where
     go : (b : Bool) → b ≡ b || false
     go true = refl
@@ -69,19 +69,19 @@ bad-end s i bad is h = ap not (go bad ∙ sym (ap (λ l. bad || not (areDigits l
     twice false = refl
 
 -- of a loop that reads low bits, byte after byte: x is what was read
-pub low_turn : (s : List ℕ) (i x w v : ℕ) → lowsFrom x (drop i s) ≡ v → i < length s → w ≡ low_of (get_or s i 0) → lowsFrom (x * 16 + w) (drop (i + 1) s) ≡ v
-low_turn s i x w v is h e = rw e (sym (ap (lowsFrom x) (left s i h))) ∙ is
+pub low_turn : (s : List ℕ) (i x w v : ℕ) → lows_from x (drop i s) ≡ v → i < length s → w ≡ low_of (get_or s i 0) → lows_from (x * 16 + w) (drop (i + 1) s) ≡ v
+low_turn s i x w v is h e = rw e (sym (ap (lows_from x) (left s i h))) ∙ is
 
-pub low_end : (s : List ℕ) (i x : ℕ) → lowsFrom x (drop i s) ≡ lowsFrom 0 s → length s ≤ i → length s ≤ 16 → x ≡ lowIn s
-unfolding lowIn
-low_end s i x is h few = rw (le-leb _ _ few) (sym (ap (lowsFrom x) (none_left s i h)) ∙ is)
+pub low_end : (s : List ℕ) (i x : ℕ) → lows_from x (drop i s) ≡ lows_from 0 s → length s ≤ i → length s ≤ 16 → x ≡ low_in s
+unfolding low_in
+low_end s i x is h few = rw (le-leb _ _ few) (sym (ap (lows_from x) (none_left s i h)) ∙ is)
 
-pub low-many : (s : List ℕ) → 16 < length s → 0 ≡ lowIn s
-unfolding lowIn
-low-many s many = rw (lt-leb _ _ many)
+pub low_many : (s : List ℕ) → 16 < length s → 0 ≡ low_in s
+unfolding low_in
+low_many s many = rw (lt-leb _ _ many)
 
 -- of digits they say the number
-low_digit : (b : ℕ) → isDigit b ≡ true → low_of b ≡ worth b
+low_digit : (b : ℕ) → is_digit b ≡ true → low_of b ≡ worth b
 low_digit b e = go (ltb b 58) refl (range b e)
   where
     go : (low : Bool) → ltb b 58 ≡ low → Range b → low_of b ≡ worth b
@@ -104,38 +104,38 @@ low_digit b e = go (ltb b 58) refl (range b e)
         let small : b - 87 < 16 = omega arith in
         ap (λ n. n % 16) low ∙ mod-eq_of_lt small ∙ sym w
 
-lows-say : (x : ℕ) (s : List ℕ) → areDigits s ≡ true → lowsFrom x s ≡ saysFrom x s
-lows-say x [] e = refl
-lows-say x (b ∷ s) e =
-    ap (λ w. lowsFrom (x * 16 + w) s) (low_digit b (and_left _ _ e)) ∙ lows-say (x * 16 + worth b) s (and_right (isDigit b) _ e)
+lows_say : (x : ℕ) (s : List ℕ) → are_digits s ≡ true → lows_from x s ≡ says_from x s
+lows_say x [] e = refl
+lows_say x (b ∷ s) e =
+    ap (λ w. lows_from (x * 16 + w) s) (low_digit b (and_left _ _ e)) ∙ lows_say (x * 16 + worth b) s (and_right (is_digit b) _ e)
 
-pub low-says : (s : List ℕ) → areDigits s ≡ true → length s ≤ 16 → lowIn s ≡ says s
-unfolding lowIn
-low-says s e few = rw (le-leb _ _ few) (lows-say 0 s e)
+pub low_says : (s : List ℕ) → are_digits s ≡ true → length s ≤ 16 → low_in s ≡ says s
+unfolding low_in
+low_says s e few = rw (le-leb _ _ few) (lows_say 0 s e)
 
 -- the number of a part: what its digits say, or 0
-pub number-says : (s : List ℕ) (x : ℕ) → length s ≤ 16 → true ≡ areDigits s → x ≡ says s → x ≡ number_in s
+pub number_says : (s : List ℕ) (x : ℕ) → length s ≤ 16 → true ≡ are_digits s → x ≡ says s → x ≡ number_in s
 unfolding number_in
-number-says s x short all e = rw (le-leb _ _ short, ← all) e
+number_says s x short all e = rw (le-leb _ _ short, ← all) e
 
-pub number-low : (s : List ℕ) (d : Bool) (x : ℕ) → d ≡ areDigits s → d ≡ true → x ≡ lowIn s → x ≡ number_in s
+pub number_low : (s : List ℕ) (d : Bool) (x : ℕ) → d ≡ are_digits s → d ≡ true → x ≡ low_in s → x ≡ number_in s
 unfolding number_in
-number-low s d x e t ex = go (leb (length s) 16) refl
+number_low s d x e t ex = go (leb (length s) 16) refl
   where
-    digits : areDigits s ≡ true
+    digits : are_digits s ≡ true
     digits = sym e ∙ t
 
     go : (b : Bool) → leb (length s) 16 ≡ b → x ≡ number_in s
-    go true p = ex ∙ low-says s digits (leb-true _ _ p) ∙ sym (rw (p, digits))
-    go false p = ex ∙ sym (low-many s (leb-false _ _ p)) ∙ sym (rw p)
+    go true p = ex ∙ low_says s digits (leb-true _ _ p) ∙ sym (rw (p, digits))
+    go false p = ex ∙ sym (low_many s (leb-false _ _ p)) ∙ sym (rw p)
 
-pub number-none : (s : List ℕ) (d : Bool) → d ≡ areDigits s → d ≡ false → 0 ≡ number_in s
+pub number_none : (s : List ℕ) (d : Bool) → d ≡ are_digits s → d ≡ false → 0 ≡ number_in s
 unfolding number_in
-number-none s d e f = let other : areDigits s ≡ false = sym e ∙ f in rw (other, and-false (leb (length s) 16))
+number_none s d e f = let other : are_digits s ≡ false = sym e ∙ f in rw (other, and_false (leb (length s) 16))
   where
-    and-false : (b : Bool) → b && false ≡ false
-    and-false true = refl
-    and-false false = refl
+    and_false : (b : Bool) → b && false ≡ false
+    and_false true = refl
+    and_false false = refl
 
 -- i digits say less than 16 to the i
 pub grows : (i x w : ℕ) → x < 16 ^ i → w < 16 → x * 16 + w < 16 ^ (i + 1)
@@ -147,11 +147,11 @@ fits i x w lx lw h =
     let all : ◌≡◌ {A = ℕ} (16 ^ 16) (2 ^ 64) = refl in
     omega (arith, grows i x w lx lw)
 
-pub times-fits : (i x : ℕ) → x < 16 ^ i → i < 16 → x * 16 < 2 ^ 64
-times-fits i x lx h = omega (arith, fits i x 0 lx (omega arith) h)
+pub times_fits : (i x : ℕ) → x < 16 ^ i → i < 16 → x * 16 < 2 ^ 64
+times_fits i x lx h = omega (arith, fits i x 0 lx (omega arith) h)
 
-pub none-small : (n : ℕ) → 0 < 16 ^ n
-none-small n = let least : 0 ≤ n = omega arith in pow-le-pow_right {n = 16} (omega arith) least
+pub none_small : (n : ℕ) → 0 < 16 ^ n
+none_small n = let least : 0 ≤ n = omega arith in pow-le-pow_right {n = 16} (omega arith) least
 
-pub small-end : (i x n : ℕ) → x < 16 ^ i → i ≤ n → n ≤ i → x < 16 ^ n
-small-end i x n lx p q = let e : i ≡ n = omega arith in rw e at lx
+pub small_end : (i x n : ℕ) → x < 16 ^ i → i ≤ n → n ≤ i → x < 16 ^ n
+small_end i x n lx p q = let e : i ≡ n = omega arith in rw e at lx

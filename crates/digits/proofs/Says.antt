@@ -8,12 +8,12 @@ use native.Mathlib.Omega.{arith}
 use borrow.Author.Tests.{lt-ltb, le-ltb, le-leb, ltb-false, ltb-true}
 use lib.Dec.{ltb, leb}
 use lib.ListN.{length}
-use Rattle.digits.specs.Hex.{digit, hex, isDigit, areDigits, worth, saysFrom, says}
+use Rattle.digits.specs.Hex.{digit, hex, is_digit, are_digits, worth, says_from, says}
 use Rattle.digits.proofs.Digits.{and_left, and_right, range}
 
 -- a digit is the byte of what it says
-digit-worth : (b : ℕ) → isDigit b ≡ true → (digit (worth b) ≡ b) × (worth b < 16)
-digit-worth b e = go (ltb b 58) refl
+digit_worth : (b : ℕ) → is_digit b ≡ true → (digit (worth b) ≡ b) × (worth b < 16)
+digit_worth b e = go (ltb b 58) refl
   where
     go : (low : Bool) → ltb b 58 ≡ low → (digit (worth b) ≡ b) × (worth b < 16)
     go true p =
@@ -32,16 +32,16 @@ digit-worth b e = go (ltb b 58) refl
         (ap digit w ∙ rw big (omega arith), omega arith)
 
 -- the byte of a number below 16 is a digit, and says it
-worth-digit : (d : ℕ) → d < 16 → (isDigit (digit d) ≡ true) × (worth (digit d) ≡ d)
-worth-digit d h = go (ltb d 10) refl
+worth_digit : (d : ℕ) → d < 16 → (is_digit (digit d) ≡ true) × (worth (digit d) ≡ d)
+worth_digit d h = go (ltb d 10) refl
   where
-    go : (low : Bool) → ltb d 10 ≡ low → (isDigit (digit d) ≡ true) × (worth (digit d) ≡ d)
+    go : (low : Bool) → ltb d 10 ≡ low → (is_digit (digit d) ≡ true) × (worth (digit d) ≡ d)
     go true p =
         let lt = ltb-true d 10 p in
         let is : digit d ≡ 48 + d = rw p in
         let a : leb 48 (48 + d) ≡ true = (let u : 48 ≤ 48 + d = omega arith in le-leb _ _ u) in
         let b : ltb (48 + d) 58 ≡ true = (let u : 48 + d < 58 = omega arith in lt-ltb _ _ u) in
-        (ap isDigit is ∙ rw (a, b), ap worth is ∙ rw b (omega arith))
+        (ap is_digit is ∙ rw (a, b), ap worth is ∙ rw b (omega arith))
     go false p =
         let le = ltb-false d 10 p in
         let is : digit d ≡ 87 + d = rw p in
@@ -49,81 +49,81 @@ worth-digit d h = go (ltb d 10) refl
         let b : ltb (87 + d) 103 ≡ true = (let u : 87 + d < 103 = omega arith in lt-ltb _ _ u) in
         let c : ltb (87 + d) 58 ≡ false = (let u : 58 ≤ 87 + d = omega arith in le-ltb _ _ u) in
         let f : leb 48 (87 + d) ≡ true = (let u : 48 ≤ 87 + d = omega arith in le-leb _ _ u) in
-        (ap isDigit is ∙ rw (f, c, a, b), ap worth is ∙ rw c (omega arith))
+        (ap is_digit is ∙ rw (f, c, a, b), ap worth is ∙ rw c (omega arith))
 
 -- WHAT DIGITS SAY IS WRITTEN AS THOSE DIGITS
-hex-from : (k x : ℕ) (s : List ℕ) → areDigits s ≡ true → hex (k + length s) (saysFrom x s) ≡ hex k x ++ s
+hex_from : (k x : ℕ) (s : List ℕ) → are_digits s ≡ true → hex (k + length s) (says_from x s) ≡ hex k x ++ s
 unfolding hex
-hex-from k x [] e = let z : k + 0 ≡ k = omega arith in ap (λ n. hex n x) z ∙ sym (append-nil (hex k x))
-hex-from k x (b ∷ s) e =
-    let d = digit-worth b (and_left _ _ e) in
+hex_from k x [] e = let z : k + 0 ≡ k = omega arith in ap (λ n. hex n x) z ∙ sym (append-nil (hex k x))
+hex_from k x (b ∷ s) e =
+    let d = digit_worth b (and_left _ _ e) in
     let q : (x * 16 + worth b) / 16 ≡ x = omega arith in
     let r : (x * 16 + worth b) % 16 ≡ worth b = omega arith in
     let one : hex (suc k) (x * 16 + worth b) ≡ hex k x ++ (b ∷ []) = rw (q, r, d.0) in
     let z : k + suc (length s) ≡ suc k + length s = omega arith in
-    ap (λ n. hex n (saysFrom (x * 16 + worth b) s)) z
-    ∙ hex-from (suc k) (x * 16 + worth b) s (and_right (isDigit b) _ e)
+    ap (λ n. hex n (says_from (x * 16 + worth b) s)) z
+    ∙ hex_from (suc k) (x * 16 + worth b) s (and_right (is_digit b) _ e)
     ∙ ap (λ l. l ++ s) one
     ∙ append_assoc (hex k x) (b ∷ []) s
 
-pub hex-says : (n : ℕ) (s : List ℕ) → areDigits s ≡ true → length s ≡ n → hex n (says s) ≡ s
+pub hex_says : (n : ℕ) (s : List ℕ) → are_digits s ≡ true → length s ≡ n → hex n (says s) ≡ s
 unfolding hex
-hex-says n s e en = let z : n ≡ 0 + length s = omega arith in ap (λ n. hex n (says s)) z ∙ hex-from 0 0 s e
+hex_says n s e en = let z : n ≡ 0 + length s = omega arith in ap (λ n. hex n (says s)) z ∙ hex_from 0 0 s e
 
 -- WHAT IS WRITTEN IS DIGITS, AND SAYS ITS NUMBER
-pub digits_append : (a b : List ℕ) → areDigits (a ++ b) ≡ areDigits a && areDigits b
+pub digits_append : (a b : List ℕ) → are_digits (a ++ b) ≡ are_digits a && are_digits b
 digits_append [] b = refl
-digits_append (x ∷ a) b = rw (digits_append a b) (go (isDigit x) (areDigits a) (areDigits b))
+digits_append (x ∷ a) b = rw (digits_append a b) (go (is_digit x) (are_digits a) (are_digits b))
   where
     go : (d e f : Bool) → d && (e && f) ≡ (d && e) && f
     go true e f = refl
     go false e f = refl
 
-says_last : (x : ℕ) (a : List ℕ) (b : ℕ) → saysFrom x (a ++ (b ∷ [])) ≡ saysFrom x a * 16 + worth b
+says_last : (x : ℕ) (a : List ℕ) (b : ℕ) → says_from x (a ++ (b ∷ [])) ≡ says_from x a * 16 + worth b
 says_last x [] b = refl
 says_last x (y ∷ a) b = says_last (x * 16 + worth y) a b
 
-pub digits-hex : (n x : ℕ) → areDigits (hex n x) ≡ true
+pub digits_hex : (n x : ℕ) → are_digits (hex n x) ≡ true
 unfolding hex
-digits-hex zero x = refl
-digits-hex (suc n) x =
-    digits_append (hex n (x / 16)) (digit (x % 16) ∷ []) ∙ rw (digits-hex n (x / 16), (worth-digit (x % 16) (omega arith)).0)
+digits_hex zero x = refl
+digits_hex (suc n) x =
+    digits_append (hex n (x / 16)) (digit (x % 16) ∷ []) ∙ rw (digits_hex n (x / 16), (worth_digit (x % 16) (omega arith)).0)
 
-pub says-hex : (n x : ℕ) → x < 16 ^ n → says (hex n x) ≡ x
+pub says_hex : (n x : ℕ) → x < 16 ^ n → says (hex n x) ≡ x
 unfolding hex
-says-hex zero x h = omega arith
-says-hex (suc n) x h =
+says_hex zero x h = omega arith
+says_hex (suc n) x h =
     let h2 : x < 16 ^ n * 16 = rw pow-suc at h in
     says_last 0 (hex n (x / 16)) (digit (x % 16))
-    ∙ rw (says-hex n (x / 16) (omega arith), (worth-digit (x % 16) (omega arith)).1) (omega arith)
+    ∙ rw (says_hex n (x / 16) (omega arith), (worth_digit (x % 16) (omega arith)).1) (omega arith)
 
 -- n digits say less than 16 to the n
-says-small : (x : ℕ) (s : List ℕ) (k : ℕ) → areDigits s ≡ true → x < 16 ^ k → saysFrom x s < 16 ^ (k + length s)
-says-small x [] k e h = let z : k + 0 ≡ k = omega arith in rw z h
-says-small x (b ∷ s) k e h =
-    let d = digit-worth b (and_left _ _ e) in
+says_small : (x : ℕ) (s : List ℕ) (k : ℕ) → are_digits s ≡ true → x < 16 ^ k → says_from x s < 16 ^ (k + length s)
+says_small x [] k e h = let z : k + 0 ≡ k = omega arith in rw z h
+says_small x (b ∷ s) k e h =
+    let d = digit_worth b (and_left _ _ e) in
     let up : x * 16 + worth b < 16 ^ suc k = rw pow-suc (omega arith) in
     let z : k + suc (length s) ≡ suc k + length s = omega arith in
-    rw z (says-small (x * 16 + worth b) s (suc k) (and_right (isDigit b) _ e) up)
+    rw z (says_small (x * 16 + worth b) s (suc k) (and_right (is_digit b) _ e) up)
 
-pub says-under : (n : ℕ) (s : List ℕ) → areDigits s ≡ true → length s ≡ n → says s < 16 ^ n
-says-under n s e en = let z : n ≡ 0 + length s = omega arith in rw z (says-small 0 s 0 e (omega arith))
+pub says_under : (n : ℕ) (s : List ℕ) → are_digits s ≡ true → length s ≡ n → says s < 16 ^ n
+says_under n s e en = let z : n ≡ 0 + length s = omega arith in rw z (says_small 0 s 0 e (omega arith))
 
 -- WHAT STANDS BEFORE counts once for each number that the digits behind it can say
-says-from : (x : ℕ) (s : List ℕ) → saysFrom x s ≡ x * 16 ^ length s + says s
-says-from x [] = omega arith
-says-from x (b ∷ s) =
+says_from_law : (x : ℕ) (s : List ℕ) → says_from x s ≡ x * 16 ^ length s + says s
+says_from_law x [] = omega arith
+says_from_law x (b ∷ s) =
     let p : ℕ = 16 ^ length s in
     let w : ℕ = worth b in
     let up : x * 16 ^ suc (length s) ≡ x * 16 * p = rw (pow-suc, mul_comm p 16) (sym (mul_assoc x 16 p)) in
-    let here = says-from (x * 16 + w) s in
-    let alone = says-from (0 * 16 + w) s in
+    let here = says_from_law (x * 16 + w) s in
+    let alone = says_from_law (0 * 16 + w) s in
     let none : (0 * 16 + w) * p ≡ w * p = ap (λ n. n * p) (omega arith) in
     omega (arith, up, here, alone, none, add-mul (x * 16) w p)
 
-from-append : (x : ℕ) (a b : List ℕ) → saysFrom x (a ++ b) ≡ saysFrom (saysFrom x a) b
-from-append x [] b = refl
-from-append x (y ∷ a) b = from-append (x * 16 + worth y) a b
+from_append : (x : ℕ) (a b : List ℕ) → says_from x (a ++ b) ≡ says_from (says_from x a) b
+from_append x [] b = refl
+from_append x (y ∷ a) b = from_append (x * 16 + worth y) a b
 
-pub says-append : (a b : List ℕ) → says (a ++ b) ≡ says a * 16 ^ length b + says b
-says-append a b = from-append 0 a b ∙ says-from (says a) b
+pub says_append : (a b : List ℕ) → says (a ++ b) ≡ says a * 16 ^ length b + says b
+says_append a b = from_append 0 a b ∙ says_from_law (says a) b

@@ -15,24 +15,24 @@ abbrev pub lf : ℕ
 lf = 10
 
 -- 0 to 9 or a to f
-abbrev pub isDigit : (b : ℕ) → Bool
-isDigit b = (leb 48 b && ltb b 58) || (leb 97 b && ltb b 103)
+abbrev pub is_digit : (b : ℕ) → Bool
+is_digit b = (leb 48 b && ltb b 58) || (leb 97 b && ltb b 103)
 
-abbrev pub areDigits : List ℕ → Bool
-areDigits [] = true
-areDigits (b ∷ s) = isDigit b && areDigits s
+abbrev pub are_digits : List ℕ → Bool
+are_digits [] = true
+are_digits (b ∷ s) = is_digit b && are_digits s
 
 -- what a digit says, and what a run of them says, read from the left
 abbrev pub worth : (b : ℕ) → ℕ
 worth b = cond (ltb b 58) (b - 48) (b - 87)
 
-abbrev pub saysFrom : ℕ → List ℕ → ℕ
-saysFrom x [] = x
-saysFrom x (b ∷ s) = saysFrom (x * 16 + worth b) s
+abbrev pub says_from : ℕ → List ℕ → ℕ
+says_from x [] = x
+says_from x (b ∷ s) = says_from (x * 16 + worth b) s
 
 abbrev pub says : List ℕ → ℕ
-says s = saysFrom 0 s
+says s = says_from 0 s
 
 -- the number of 64 bits that a run says: digits, sixteen at most; anything else says 0
 unfoldable pub number_in : List ℕ → ℕ
-number_in s = cond (leb (length s) 16 && areDigits s) (says s) 0
+number_in s = cond (leb (length s) 16 && are_digits s) (says s) 0

@@ -1,8 +1,8 @@
 // Hexadecimal text: digits put into a lent text, and read back from one.
 ghost use Rattle.std.specs.Prelude.{◌≡◌, ◌^◌, ◌<◌, true, not, length};
-ghost use Rattle.digits.specs.Hex.{digit, hex, areDigits, isDigit, number_in};
-ghost use Rattle.digits.specs.Low.{low_of, lowIn};
-ghost use Rattle.digits.specs.Put.{putWhole};
+ghost use Rattle.digits.specs.Hex.{digit, hex, are_digits, is_digit, number_in};
+ghost use Rattle.digits.specs.Low.{low_of, low_in};
+ghost use Rattle.digits.specs.Put.{put_whole};
 
 // The byte of a digit.
 fn digit(d: u8) -> u8
@@ -14,7 +14,7 @@ fn digit(d: u8) -> u8
 
 // The count digits that say x, from a place of the text on. Where the text has no room for them all, it stays.
 pub fn put_hex(text: &mut [u8], at: usize, count: usize, x: u64)
-    ensures { text.new ≡ putWhole text.old at (hex count x) }
+    ensures { text.new ≡ put_whole text.old at (hex count x) }
 {
     let room = text.len();
     if room < at {
@@ -34,14 +34,14 @@ pub fn put_hex(text: &mut [u8], at: usize, count: usize, x: u64)
 
 // Whether a byte is no lower-case hexadecimal digit.
 pub fn no_digit(b: u8) -> bool
-    ensures { result ≡ not (isDigit b) }
+    ensures { result ≡ not (is_digit b) }
 {
     !(((48 <= b) & (b < 58)) | ((97 <= b) & (b < 103)))
 }
 
 // Whether all of a part is digits. The loop has no exit, so that the compiler looks at several bytes at once.
 pub fn are_digits(part: &[u8]) -> bool
-    ensures { result ≡ areDigits part.now }
+    ensures { result ≡ are_digits part.now }
 {
     let mut bad = false;
     let mut i = 0;
@@ -61,7 +61,7 @@ fn low_of(b: u8) -> u64
 
 // What the low bits of a part say, whatever it is, sixteen bytes at most: of digits, their number. More say 0.
 pub fn low(part: &[u8]) -> u64
-    ensures { (result ≡ lowIn part.now) × (result < 16 ^ length part.now) }
+    ensures { (result ≡ low_in part.now) × (result < 16 ^ length part.now) }
 {
     if 16 < part.len() {
         return 0;

@@ -18,7 +18,7 @@ use Rattle.record.specs.Scan.{scanned}
 use Rattle.record.specs.Places.{firsts}
 use Rattle.record.specs.Steps.{number_of}
 use Rattle.record.specs.Recorded.{longest, first_of, places, records, Records}
-use Rattle.record.proofs.Laws.Saying.{length-firsts}
+use Rattle.record.proofs.Laws.Saying.{length_firsts}
 
 -- by the tests, one after another: what is answered 0 has passed them all
 module _ (text : List ℕ) (t t2 : Tray) where
@@ -45,8 +45,8 @@ module _ (text : List ℕ) (t t2 : Tray) where
       let p = passed (not (valid vector (cap t) 0 t.len)) (not (valid vector (cap t2) 0 t2.len)) (holding t.len) (holding t2.len) (ltb longest (length text))
       (not (eqb (number_of (scanned text).ending) 0)) (ltb (cap t) n) (ltb (cap t2) n) (number_of (scanned text).ending)
       (λ b. eqb-false (number_of (scanned text).ending) 0 (not-true _ b)) e in (
-        omega (arith, p.2, length-firsts (scanned text).fields, ltb-false (cap t) n p.0),
-        omega (arith, p.2, length-firsts (scanned text).fields, ltb-false (cap t2) n p.1),
+        omega (arith, p.2, length_firsts (scanned text).fields, ltb-false (cap t) n p.0),
+        omega (arith, p.2, length_firsts (scanned text).fields, ltb-false (cap t2) n p.1),
       )
 
 module _ (text : List ℕ) (first : Vector) (s : List ℕ) (second : Vector) (z : List ℕ) (a : Both) (s' z' : List ℕ) (r : Records text first s second z a s' z') (done : a.number ≡ 0) where
@@ -58,5 +58,5 @@ module _ (text : List ℕ) (first : Vector) (s : List ℕ) (second : Vector) (z 
   pub starts_fit : length s' ≡ length s → a.first.len ≤ length s'
   starts_fit e = omega (arith, fits.0)
 
-  pub ends-fit : length z' ≡ length z → a.first.len ≤ length z'
-  ends-fit e = omega (arith, fits.1)
+  pub ends_fit : length z' ≡ length z → a.first.len ≤ length z'
+  ends_fit e = omega (arith, fits.1)

@@ -13,8 +13,8 @@ use Rattle.import.specs.Sheets.{Went, Begun, Stands, Turned}
 -- t was taken from the window of s, which holds so many bytes
 module _ (s : Stand) (t : Taken) (ending n out size : ℕ) (st : Stands s n out) (small : n ≤ 65536) (few : s.taken.sheet.passed < 18446744073709420543)
     (going : s.ending ≡ 0) (is : size ≡ s.filled.held) (w : Went s.taken size out t) where
-  pub turn-ends : (ending ≡ 0 → ⊥) → Stands (record { filled = s.filled; taken = t; ending = ending }) n out × Turned s (record { filled = s.filled; taken = t; ending = ending })
-  turn-ends over = (
+  pub turn_ends : (ending ≡ 0 → ⊥) → Stands (record { filled = s.filled; taken = t; ending = ending }) n out × Turned s (record { filled = s.filled; taken = t; ending = ending })
+  turn_ends over = (
     record { held = st.held; next = omega (arith, w.within); sane = w.sane; said = w.said },
     record {
       few = omega (arith, w.passed, w.within, st.held);
@@ -34,9 +34,9 @@ module _ (s : Stand) (t : Taken) (ending n out size : ℕ) (st : Stands s n out)
   )
 
 -- the start, and what a turn begins with
-pub stands-first : (f : Filled) (t : Taken) (n out out2 size : ℕ) → f.held ≤ n → size ≡ f.held → Begun size out t → out ≤ out2
+pub stands_first : (f : Filled) (t : Taken) (n out out2 size : ℕ) → f.held ≤ n → size ≡ f.held → Begun size out t → out ≤ out2
     → Stands (record { filled = f; taken = t; ending = 0 }) n out2
-stands-first f t n out out2 size h e b o = record { held = h; next = omega (arith, b.next); sane = b.sane; said = omega (arith, b.said) }
+stands_first f t n out out2 size h e b o = record { held = h; next = omega (arith, b.next); sane = b.sane; said = omega (arith, b.said) }
 
 pub going_on : (go : Bool) (ending : ℕ) → go ≡ eqb ending 0 → go ≡ true → ending ≡ 0
 going_on go ending e on = eqb-true ending 0 (sym e ∙ on)

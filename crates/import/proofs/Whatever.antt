@@ -10,7 +10,7 @@ use borrow.Author.Tests.{eqb-true, eq-eqb, lt-ltb, le-ltb, ltb-true}
 use lib.Dec.{eqb, ltb}
 use lib.ListN.{length, get_or}
 use Rattle.record.specs.Scan.{done, bad, scanned}
-use Rattle.record.proofs.Theorems.Decided.{bad-decided, window-done}
+use Rattle.record.proofs.Theorems.Decided.{bad_decided, window_done}
 use Rattle.import.specs.Settled.{stands, settled}
 
 both : (a b : Bool) → a && b ≡ true → (a ≡ true) × (b ≡ true)
@@ -18,19 +18,19 @@ both true b e = (refl, e)
 both false b e = absurd (let z : ◌≡◌ {A = ℕ} 0 1 = cc in omega arith)
 
 -- a record that is settled is read the same, with the same fields and the same next place
-pub record-whatever : (window others : List ℕ) (next : ℕ) → (scanned window).ending ≡ done next → settled window false 0 next ≡ true
+pub record_whatever : (window others : List ℕ) (next : ℕ) → (scanned window).ending ≡ done next → settled window false 0 next ≡ true
     → scanned (window ++ others) ≡ scanned window
 unfolding settled
-record-whatever window others next e is =
+record_whatever window others next e is =
     let some = both (ltb 0 next) (stands window (next - 1) 10) is in
     let lf = both (ltb (next - 1) (length window)) (eqb (get_or window (next - 1) 0) 10) some.1 in
-    window-done window next others e (inr (eqb-true (get_or window (next - 1) 0) 10 lf.1))
+    window_done window next others e (inr (eqb-true (get_or window (next - 1) 0) 10 lf.1))
 
 -- a byte that is settled to be at fault is so whatever follows
-pub fault-whatever : (window others : List ℕ) (at : ℕ) → (scanned window).ending ≡ bad at → settled window false 9 at ≡ true
+pub fault_whatever : (window others : List ℕ) (at : ℕ) → (scanned window).ending ≡ bad at → settled window false 9 at ≡ true
     → scanned (window ++ others) ≡ scanned window
 unfolding settled
-fault-whatever window others at e is = bad-decided window at others e (λ last cr. alone last cr is)
+fault_whatever window others at e is = bad_decided window at others e (λ last cr. alone last cr is)
   where
     alone : at + 1 ≡ length window → get_or window at 0 ≡ 13 → not (stands window at 13) || ltb (at + 1) (length window) ≡ true → ⊥
     alone last cr h =

@@ -34,11 +34,11 @@ fewer n m at count more e some same = rw e (step (ltb 0 count) refl)
 -- at the end: no room is left, or no byte came
 module _ (before after : List ℕ) (held at : ℕ) (more failed : Bool) (some : held ≤ at) (within : at ≤ length after) (long : length after ≡ length before)
     (kept : take held after ≡ take held before) where
-  pub fills-full : length after ≤ at → Fills before held (record { held = at; ended = not (more || failed); failed = failed }) after
-  fills-full none = record { more = some; within = omega arith; long = long; kept = kept; full = λ e f. omega arith }
+  pub fills_full : length after ≤ at → Fills before held (record { held = at; ended = not (more || failed); failed = failed }) after
+  fills_full none = record { more = some; within = omega arith; long = long; kept = kept; full = λ e f. omega arith }
 
-  pub fills-short : more ≡ false → Fills before held (record { held = at; ended = not (more || failed); failed = failed }) after
-  fills-short none = record {
+  pub fills_short : more ≡ false → Fills before held (record { held = at; ended = not (more || failed); failed = failed }) after
+  fills_short none = record {
     more = some;
     within = omega arith;
     long = long;
@@ -47,9 +47,9 @@ module _ (before after : List ℕ) (held at : ℕ) (more failed : Bool) (some : 
   }
 
 -- one more byte moved: the bytes at the front are those from a place on, and those behind are as they were
-pub shift-turn : (before now : List ℕ) (from i : ℕ) → take i now ≡ take i (drop from before) → drop i now ≡ drop i before → i < length now → from + i < length before
+pub shift_turn : (before now : List ℕ) (from i : ℕ) → take i now ≡ take i (drop from before) → drop i now ≡ drop i before → i < length now → from + i < length before
     → take (i + 1) (set now i (get_or now (from + i) 0)) ≡ take (i + 1) (drop from before)
-shift-turn before now from i front back h h2 =
+shift_turn before now from i front back h h2 =
     let swap : from + i ≡ i + from = omega arith in
     let same : get_or now (from + i) 0 ≡ get_or before (from + i) 0 =
     rw swap (sym (get_or-drop i now from 0) ∙ ap (λ (l : List ℕ). get_or l from 0) back ∙ get_or-drop i before from 0) in
@@ -63,5 +63,5 @@ shift-turn before now from i front back h h2 =
 pub shift_back : (before now : List ℕ) (i b : ℕ) → drop i now ≡ drop i before → drop (i + 1) (set now i b) ≡ drop (i + 1) before
 shift_back before now i b back = drop-set-lt (i + 1) now i b (omega arith) ∙ sym (drop-drop 1 i now) ∙ ap (drop 1) back ∙ drop-drop 1 i before
 
-pub shift-end : (before now : List ℕ) (from i n : ℕ) → take i now ≡ take i (drop from before) → n ≤ i → i ≤ n → take n now ≡ take n (drop from before)
-shift-end before now from i n front h h2 = let e : n ≡ i = omega arith in rw e front
+pub shift_end : (before now : List ℕ) (from i n : ℕ) → take i now ≡ take i (drop from before) → n ≤ i → i ≤ n → take n now ≡ take n (drop from before)
+shift_end before now from i n front h h2 = let e : n ≡ i = omega arith in rw e front

@@ -7,20 +7,20 @@ use Rattle.words.specs.Words.{bytes, decimal, numbered, several}
 unfoldable pub shown : (b : ℕ) → List ℕ
 shown b = cond (ltb b 32 || (eqb b 127 || eqb b 92)) (bytes "\\x" ++ hex 2 b) (b ∷ [])
 
-unfoldable pub allShown : (s : List ℕ) → List ℕ
-allShown [] = []
-allShown (b ∷ s) = shown b ++ allShown s
+unfoldable pub all_shown : (s : List ℕ) → List ℕ
+all_shown [] = []
+all_shown (b ∷ s) = shown b ++ all_shown s
 
 -- a field, by its own bytes
-unfoldable pub fieldLine : (s : List ℕ) → List ℕ
-fieldLine s = bytes "    " ++ (allShown s ++ bytes "\n")
+unfoldable pub field_line : (s : List ℕ) → List ℕ
+field_line s = bytes "    " ++ (all_shown s ++ bytes "\n")
 
 -- record n has k fields; the first had so many
-unfoldable pub otherThan : (k first : ℕ) → List ℕ
-otherThan k first = cond (eqb k first) [] (bytes ", record 1 has " ++ decimal first)
+unfoldable pub other_than : (k first : ℕ) → List ℕ
+other_than k first = cond (eqb k first) [] (bytes ", record 1 has " ++ decimal first)
 
-unfoldable pub recordLine : (n k first : ℕ) → List ℕ
-recordLine n k first = numbered n (bytes ": ") ++ (several k (bytes "field") ++ (otherThan k first ++ bytes "\n"))
+unfoldable pub record_line : (n k first : ℕ) → List ℕ
+record_line n k first = numbered n (bytes ": ") ++ (several k (bytes "field") ++ (other_than k first ++ bytes "\n"))
 
 -- record n is refused, by a number, for the byte at a place
 unfoldable pub why : (number : ℕ) → List ℕ
@@ -32,8 +32,8 @@ why number =
 unfoldable pub place : (line byte : ℕ) → List ℕ
 place line byte = numbered line (bytes ", byte ") ++ numbered byte (bytes ": ")
 
-unfoldable pub refusedLine : (n line byte number : ℕ) → List ℕ
-refusedLine n line byte number = numbered n (bytes ": refused, line ") ++ (place line byte ++ (why number ++ bytes "\n"))
+unfoldable pub refused_line : (n line byte number : ℕ) → List ℕ
+refused_line n line byte number = numbered n (bytes ": refused, line ") ++ (place line byte ++ (why number ++ bytes "\n"))
 
 -- how many fields the records have, where there are records: all as many as the first, or so many others
 unfoldable pub counts : (records first others : ℕ) → List ℕ
@@ -43,8 +43,8 @@ counts records first others =
     (bytes ", " ++ (decimal others ++ bytes " with another number of fields than record 1")))
 
 -- how it came to its end: 1 with a refusal, 2 with an input that can't be read
-unfoldable pub endWords : (ending : ℕ) → List ℕ
-endWords ending = cond (eqb ending 1) (bytes ", then refused") (cond (eqb ending 2) (bytes ", then the input failed") [])
+unfoldable pub end_words : (ending : ℕ) → List ℕ
+end_words ending = cond (eqb ending 1) (bytes ", then refused") (cond (eqb ending 2) (bytes ", then the input failed") [])
 
-unfoldable pub lastLine : (records first others ending : ℕ) → List ℕ
-lastLine records first others ending = several records (bytes "record") ++ (counts records first others ++ (endWords ending ++ bytes "\n"))
+unfoldable pub last_line : (records first others ending : ℕ) → List ℕ
+last_line records first others ending = several records (bytes "record") ++ (counts records first others ++ (end_words ending ++ bytes "\n"))

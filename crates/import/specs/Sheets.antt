@@ -6,7 +6,7 @@ use Rattle.import.specs.declared.Said.{Said}
 use Rattle.import.specs.declared.Sheet.{Sheet}
 use Rattle.import.specs.declared.Taken.{Taken}
 use Rattle.import.specs.declared.Stand.{Stand}
-use Rattle.import.specs.Lines.{fieldLine}
+use Rattle.import.specs.Lines.{field_line}
 use Rattle.words.specs.Wrote.{Wrote}
 
 -- nothing is counted more often than bytes were passed
@@ -42,7 +42,7 @@ pub record Says (text : List ℕ) (start end : ℕ) (field out : List ℕ) (r : 
   pub said : r.at ≤ length out
   pub at : ℕ
   pub wrote : length text ≤ 65535 → start ≤ end → end ≤ length text → length (undone (part text start end)) ≤ length field
-      → Wrote out at (fieldLine (undone (part text start end))) r.at out'
+      → Wrote out at (field_line (undone (part text start end))) r.at out'
 
 -- records taken from a window of so many bytes, from a place on: next is where the rest begins
 pub record Went (first : Taken) (window out : ℕ) (r : Taken) : Type 0 where

@@ -3,23 +3,23 @@ use Rattle.std.specs.Prelude.{ℕ, ◌+◌, ◌≤◌, ◌≡◌, cond, List, []
 use Rattle.import.specs.declared.Spot.{Spot}
 
 -- behind one byte, and behind some, of which the first stood on this line, or was this byte of its line
-abbrev pub lineOn : (line b : ℕ) → ℕ
-lineOn line b = cond (eqb b 10) (line + 1) line
+abbrev pub line_on : (line b : ℕ) → ℕ
+line_on line b = cond (eqb b 10) (line + 1) line
 
-abbrev pub byteOn : (byte b : ℕ) → ℕ
-byteOn byte b = cond (eqb b 10) 1 (byte + 1)
+abbrev pub byte_on : (byte b : ℕ) → ℕ
+byte_on byte b = cond (eqb b 10) 1 (byte + 1)
 
-unfoldable pub lineAfter : (line : ℕ) (s : List ℕ) → ℕ
-lineAfter line [] = line
-lineAfter line (b ∷ s) = lineAfter (lineOn line b) s
+unfoldable pub line_after : (line : ℕ) (s : List ℕ) → ℕ
+line_after line [] = line
+line_after line (b ∷ s) = line_after (line_on line b) s
 
-unfoldable pub byteAfter : (byte : ℕ) (s : List ℕ) → ℕ
-byteAfter byte [] = byte
-byteAfter byte (b ∷ s) = byteAfter (byteOn byte b) s
+unfoldable pub byte_after : (byte : ℕ) (s : List ℕ) → ℕ
+byte_after byte [] = byte
+byte_after byte (b ∷ s) = byte_after (byte_on byte b) s
 
 -- The promise of the function that counts: the spot behind some bytes, no further on than they are many.
 pub record Behind (first : Spot) (s : List ℕ) (r : Spot) : Type 0 where
-  pub line : r.line ≡ lineAfter first.line s
-  pub byte : r.byte ≡ byteAfter first.byte s
-  pub line-near : r.line ≤ first.line + length s
-  pub byte-near : r.byte ≤ first.byte + length s
+  pub line : r.line ≡ line_after first.line s
+  pub byte : r.byte ≡ byte_after first.byte s
+  pub line_near : r.line ≤ first.line + length s
+  pub byte_near : r.byte ≤ first.byte + length s

@@ -1,6 +1,6 @@
 // What is counted, and when an answer is settled.
 ghost use Rattle.std.specs.Prelude.{◌≡◌, ◌+◌, ◌≤◌, ◌<◌, min, cond, true, eqb, length};
-ghost use Rattle.import.specs.Spots.{lineOn, byteOn, Behind};
+ghost use Rattle.import.specs.Spots.{line_on, byte_on, Behind};
 ghost use Rattle.import.specs.Settled.{stands, settled, mark};
 ghost use Rattle.import.specs.Sheets.{Counted};
 
@@ -9,7 +9,7 @@ use super::{Sheet, Spot};
 // Behind one more byte.
 pub(crate) fn behind(s: Spot, b: u8) -> Spot
     requires { (s.line < 18446744073709551615) × (s.byte < 18446744073709551615) }
-    ensures { (result.line ≡ lineOn s.line b) × (result.byte ≡ byteOn s.byte b) }
+    ensures { (result.line ≡ line_on s.line b) × (result.byte ≡ byte_on s.byte b) }
 {
     if b == 10 {
         return Spot {

@@ -1,6 +1,6 @@
 // The lines that are printed, written into a lent text.
 ghost use Rattle.std.specs.Prelude.{◌+◌, ◌*◌, ◌≤◌, length};
-ghost use Rattle.import.specs.Lines.{shown, allShown, fieldLine, otherThan, recordLine, why, place, refusedLine, counts, endWords, lastLine};
+ghost use Rattle.import.specs.Lines.{shown, all_shown, field_line, other_than, record_line, why, place, refused_line, counts, end_words, last_line};
 ghost use Rattle.words.specs.Wrote.{Wrote};
 
 use words::{put_decimal, put_numbered, put_several, put_text};
@@ -22,7 +22,7 @@ pub(crate) fn put_byte(b: u8, out: &mut [u8], at: usize) -> usize
 // Bytes as they are shown.
 pub(crate) fn put_shown(part: &[u8], out: &mut [u8], at: usize) -> usize
     requires { at + 4 * length part.now ≤ length out.old }
-    ensures { Wrote out.old at (allShown part.now) result out.new × (result ≤ at + 4 * length part.now) }
+    ensures { Wrote out.old at (all_shown part.now) result out.new × (result ≤ at + 4 * length part.now) }
 {
     let mut i = 0;
     let mut end = at;
@@ -36,7 +36,7 @@ pub(crate) fn put_shown(part: &[u8], out: &mut [u8], at: usize) -> usize
 // A field's line.
 pub(crate) fn put_field(part: &[u8], out: &mut [u8], at: usize) -> usize
     requires { at + 4 * length part.now + 5 ≤ length out.old }
-    ensures { Wrote out.old at (fieldLine part.now) result out.new × (result ≤ at + 4 * length part.now + 5) }
+    ensures { Wrote out.old at (field_line part.now) result out.new × (result ≤ at + 4 * length part.now + 5) }
 {
     let mut end = put_text(b"    ", out, at);
     end = put_shown(part, out, end);
@@ -46,7 +46,7 @@ pub(crate) fn put_field(part: &[u8], out: &mut [u8], at: usize) -> usize
 // That the first record has another number of fields.
 pub(crate) fn put_other(k: u64, first: u64, out: &mut [u8], at: usize) -> usize
     requires { at + 35 ≤ length out.old }
-    ensures { Wrote out.old at (otherThan k first) result out.new × (result ≤ at + 35) }
+    ensures { Wrote out.old at (other_than k first) result out.new × (result ≤ at + 35) }
 {
     if k == first {
         return at;
@@ -58,7 +58,7 @@ pub(crate) fn put_other(k: u64, first: u64, out: &mut [u8], at: usize) -> usize
 // A record's line.
 pub(crate) fn put_record(n: u64, k: u64, first: u64, out: &mut [u8], at: usize) -> usize
     requires { at + 100 ≤ length out.old }
-    ensures { Wrote out.old at (recordLine n k first) result out.new × (result ≤ at + 100) }
+    ensures { Wrote out.old at (record_line n k first) result out.new × (result ≤ at + 100) }
 {
     let mut end = put_numbered(n, b": ", out, at);
     end = put_several(k, b"field", out, end);
@@ -102,7 +102,7 @@ pub(crate) fn put_refused(
     at: usize,
 ) -> usize
     requires { at + 120 ≤ length out.old }
-    ensures { Wrote out.old at (refusedLine n line byte number) result out.new × (result ≤ at + 120) }
+    ensures { Wrote out.old at (refused_line n line byte number) result out.new × (result ≤ at + 120) }
 {
     let mut end = put_numbered(n, b": refused, line ", out, at);
     end = put_place(line, byte, out, end);
@@ -130,7 +130,7 @@ pub(crate) fn put_counts(records: u64, first: u64, others: u64, out: &mut [u8], 
 // How it came to its end.
 pub(crate) fn put_ending(ending: u8, out: &mut [u8], at: usize) -> usize
     requires { at + 23 ≤ length out.old }
-    ensures { Wrote out.old at (endWords ending) result out.new × (result ≤ at + 23) }
+    ensures { Wrote out.old at (end_words ending) result out.new × (result ≤ at + 23) }
 {
     if ending == 1 {
         return put_text(b", then refused", out, at);
@@ -151,7 +151,7 @@ pub(crate) fn put_last(
     at: usize,
 ) -> usize
     requires { at + 120 ≤ length out.old }
-    ensures { Wrote out.old at (lastLine records first others ending) result out.new × (result ≤ at + 120) }
+    ensures { Wrote out.old at (last_line records first others ending) result out.new × (result ≤ at + 120) }
 {
     let mut end = put_several(records, b"record", out, at);
     end = put_counts(records, first, others, out, end);

@@ -1,13 +1,13 @@
 -- A line of a text: so many lower-case hexadecimal digits and a line feed; what stands at a place, and where the next line begins.
 use Rattle.std.specs.Prelude.{ℕ, ◌+◌, Bool, true, false, cond, ◌&&◌, List, ltb, leb, eqb, length, get_or, take, drop}
-use Rattle.digits.specs.Hex.{areDigits, says, lf}
+use Rattle.digits.specs.Hex.{are_digits, says, lf}
 use Rattle.lines.specs.declared.Line.{Line}
 use Rattle.lines.specs.declared.Line.TheVariants.{Number, Other}
 use Rattle.lines.specs.declared.Step.{Step}
 
 -- n digits and a line feed come first
 unfoldable pub is_line : (n : ℕ) → List ℕ → Bool
-is_line n s = ltb n (length s) && (areDigits (take n s) && eqb (get_or s n 0) lf)
+is_line n s = ltb n (length s) && (are_digits (take n s) && eqb (get_or s n 0) lf)
 
 -- what n digits say, from a place on
 unfoldable pub field : (at n : ℕ) → List ℕ → ℕ
@@ -17,11 +17,11 @@ field at n text = says (take n (drop at text))
 abbrev pub found_at : (at n x : ℕ) → Step
 found_at at n x = record { line = Number x; next = at + n + 1 }
 
-abbrev pub noneAt : (at : ℕ) → Step
-noneAt at = record { line = Other; next = at }
+abbrev pub none_at : (at : ℕ) → Step
+none_at at = record { line = Other; next = at }
 
 unfoldable pub line_at : (text : List ℕ) (at n : ℕ) → Step
-line_at text at n = cond (leb n 16 && is_line n (drop at text)) (found_at at n (field at n text)) (noneAt at)
+line_at text at n = cond (leb n 16 && is_line n (drop at text)) (found_at at n (field at n text)) (none_at at)
 
 -- whether it is a line, and the number that it says; 0 for none
 abbrev pub is_number : Line → Bool

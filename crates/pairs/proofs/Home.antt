@@ -7,7 +7,7 @@ use denote.Ref.{Bor}
 use denote.Triple.Clauses.{AtExit}
 use Rattle.slots.specs.Layout.{ring}
 use Rattle.table.specs.Calls.{Call2}
-use Rattle.table.proofs.Theorems.Home.{done-home2}
+use Rattle.table.proofs.Theorems.Home.{done_home2}
 use Rattle.ring.specs.declared.Ring.{Ring}
 use Rattle.ring.specs.Seen.{tray}
 use Rattle.pairs.specs.declared.rings.Both.{Both}
@@ -20,18 +20,18 @@ pub record BothHome (r : Both) : Type 0 where
   pub second : r.second.len ≡ 0 → r.second.head ≡ 0
 
 -- whichever call it was
-pub calls-home : (call : Call2) (v w : Ring) (s z s' z' : List ℕ) (r : Both) → Meets call v s w z r s' z' → r.number ≡ 0 → BothHome r
-calls-home call v w s z s' z' r meets zero =
-    let home = done-home2 ring ring call (tray v s) (tray w z) _ meets.row zero in
+pub calls_home : (call : Call2) (v w : Ring) (s z s' z' : List ℕ) (r : Both) → Meets call v s w z r s' z' → r.number ≡ 0 → BothHome r
+calls_home call v w s z s' z' r meets zero =
+    let home = done_home2 ring ring call (tray v s) (tray w z) _ meets.row zero in
     record { first = home.0; second = home.1 }
 
 -- In what follows v and s are the ring named first and its slots, w and z are T and its slots, r is the result, and e the arguments as they are at the return.
 module _ (κs : Lfts 2) (v w : Ring) (s z : Bor (List ℕ)) (r : Both) where
-  pub append-home : (e : AtExit fn.append.ended κs) → fn.append.Reads.Learnt κs (v, (s, (w, (z, tt)))) r e → r.number ≡ 0 → BothHome r
-  append-home e learnt = calls-home _ _ _ _ _ _ _ _ learnt
+  pub append_home : (e : AtExit fn.append.ended κs) → fn.append.Reads.Learnt κs (v, (s, (w, (z, tt)))) r e → r.number ≡ 0 → BothHome r
+  append_home e learnt = calls_home _ _ _ _ _ _ _ _ learnt
 
-  pub split-off-home : (at : ℕ) (e : AtExit fn.split_off.ended κs) → fn.split_off.Reads.Learnt κs (v, (s, (at, (w, (z, tt))))) r e → r.number ≡ 0 → BothHome r
-  split-off-home at e learnt = calls-home _ _ _ _ _ _ _ _ learnt
+  pub split_off_home : (at : ℕ) (e : AtExit fn.split_off.ended κs) → fn.split_off.Reads.Learnt κs (v, (s, (at, (w, (z, tt))))) r e → r.number ≡ 0 → BothHome r
+  split_off_home at e learnt = calls_home _ _ _ _ _ _ _ _ learnt
 
-  pub clone-home : (e : AtExit fn.clone.ended κs) → fn.clone.Reads.Learnt κs (v, (s, (w, (z, tt)))) r e → r.number ≡ 0 → BothHome r
-  clone-home e learnt = calls-home _ _ _ _ _ _ _ _ learnt
+  pub clone_home : (e : AtExit fn.clone.ended κs) → fn.clone.Reads.Learnt κs (v, (s, (w, (z, tt)))) r e → r.number ≡ 0 → BothHome r
+  clone_home e learnt = calls_home _ _ _ _ _ _ _ _ learnt

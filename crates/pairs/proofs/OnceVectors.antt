@@ -8,8 +8,8 @@ use Rattle.slots.specs.Layout.{vector}
 use Rattle.slots.proofs.Twice.{Twice}
 use Rattle.table.specs.Calls.{Call2}
 use Rattle.table.specs.Reported.{no_slot}
-use Rattle.table.specs.Totals.{totalFirst, totalSecond}
-use Rattle.table.proofs.Theorems.Unique.{one-answer2}
+use Rattle.table.specs.Totals.{total_first, total_second}
+use Rattle.table.proofs.Theorems.Unique.{one_answer2}
 use Rattle.vector.specs.declared.Vector.{Vector}
 use Rattle.vector.specs.Seen.{tray, state}
 use Rattle.pairs.specs.declared.vectors.Both.{Both}
@@ -20,20 +20,20 @@ use Rattle.pairs.proofs.vectors as fn
 one : {call : Call2} {v w : Vector} {b b2 : List ℕ} (r r' : Both) (s s2 s' s2' : List ℕ) → Meets call v b w b2 r s s2 → Meets call v b w b2 r' s' s2'
     → (r ≡ r') × (s ≡ s') × (s2 ≡ s2')
 one {call} {v} {w} {b} {b2} r r' s s2 s' s2' p q =
-    one-answer2 {B = ℕ × ℕ × ℕ} seen2 (λ r. (r.slot, r.first.total.sum, r.second.total.sum)) (λ o b. record { number = o.number; value = o.value; moves = o.moves; slot = b.0; first = state o.first.len (record { sum = b.1 }); second = state o.second.len (record { sum = b.2 }) })
+    one_answer2 {B = ℕ × ℕ × ℕ} seen2 (λ r. (r.slot, r.first.total.sum, r.second.total.sum)) (λ o b. record { number = o.number; value = o.value; moves = o.moves; slot = b.0; first = state o.first.len (record { sum = b.1 }); second = state o.second.len (record { sum = b.2 }) })
     (λ r s s2. refl) (λ r s s2. refl) (λ r s s2. refl) _
-    (no_slot, totalFirst vector vector call (tray v b) (tray w b2) v.total.sum, totalSecond vector vector call (tray v b) (tray w b2) w.total.sum) r r' s s2 s' s2' p.row q.row (cc (p.slot, p.total, p.total2)) (cc (q.slot, q.total, q.total2))
+    (no_slot, total_first vector vector call (tray v b) (tray w b2) v.total.sum, total_second vector vector call (tray v b) (tray w b2) w.total.sum) r r' s s2 s' s2' p.row q.row (cc (p.slot, p.total, p.total2)) (cc (q.slot, q.total, q.total2))
 
 -- In what follows a are the arguments, r and r' are results, and e and e' the arguments as they are at the return.
 module _ (κs : Lfts 2) where
-  pub append-once : Twice fn.append.ended κs (fn.append.Reads.Learnt κs) (λ r e r' e'. (r ≡ r') × (e.1.0.now ≡ e'.1.0.now) × (e.1.1.1.0.now ≡ e'.1.1.1.0.now))
-  append-once a r r' e e' p q = one r r' _ _ _ _ p q
+  pub append_once : Twice fn.append.ended κs (fn.append.Reads.Learnt κs) (λ r e r' e'. (r ≡ r') × (e.1.0.now ≡ e'.1.0.now) × (e.1.1.1.0.now ≡ e'.1.1.1.0.now))
+  append_once a r r' e e' p q = one r r' _ _ _ _ p q
 
-  pub split-off-once : Twice fn.split_off.ended κs (fn.split_off.Reads.Learnt κs) (λ r e r' e'. (r ≡ r') × (e.1.0.now ≡ e'.1.0.now) × (e.1.1.1.1.0.now ≡ e'.1.1.1.1.0.now))
-  split-off-once a r r' e e' p q = one r r' _ _ _ _ p q
+  pub split_off_once : Twice fn.split_off.ended κs (fn.split_off.Reads.Learnt κs) (λ r e r' e'. (r ≡ r') × (e.1.0.now ≡ e'.1.0.now) × (e.1.1.1.1.0.now ≡ e'.1.1.1.1.0.now))
+  split_off_once a r r' e e' p q = one r r' _ _ _ _ p q
 
-  pub clone-once : Twice fn.clone.ended κs (fn.clone.Reads.Learnt κs) (λ r e r' e'. (r ≡ r') × (e.1.1.1.0.now ≡ e'.1.1.1.0.now))
-  clone-once a r r' e e' p q = let is = one r r' _ _ _ _ p q in (is.0, is.2)
+  pub clone_once : Twice fn.clone.ended κs (fn.clone.Reads.Learnt κs) (λ r e r' e'. (r ≡ r') × (e.1.1.1.0.now ≡ e'.1.1.1.0.now))
+  clone_once a r r' e e' p q = let is = one r r' _ _ _ _ p q in (is.0, is.2)
 
-  pub equal-once : Twice fn.equal.ended κs (fn.equal.Reads.Learnt κs) (λ r e r' e'. r ≡ r')
-  equal-once a r r' e e' p q = (one r r' _ _ _ _ p q).0
+  pub equal_once : Twice fn.equal.ended κs (fn.equal.Reads.Learnt κs) (λ r e r' e'. r ≡ r')
+  equal_once a r r' e e' p q = (one r r' _ _ _ _ p q).0

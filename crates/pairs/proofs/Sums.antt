@@ -6,30 +6,30 @@ use Rattle.slots.specs.Layout.{ring, vector}
 use Rattle.slots.specs.Total.{total}
 use Rattle.table.specs.Tray.{list}
 use Rattle.table.specs.Calls.{Call2}
-use Rattle.table.proofs.Theorems.Sums.{first-sum, second-sum}
+use Rattle.table.proofs.Theorems.Sums.{first_sum, second_sum}
 use Rattle.ring.specs.declared.Ring.{Ring}
-use Rattle.ring.specs.Seen as ring-seen
+use Rattle.ring.specs.Seen as ring_seen
 use Rattle.vector.specs.declared.Vector.{Vector}
-use Rattle.vector.specs.Seen as vector-seen
-use Rattle.pairs.specs.declared.rings.Both as of-rings
-use Rattle.pairs.specs.declared.vectors.Both as of-vectors
+use Rattle.vector.specs.Seen as vector_seen
+use Rattle.pairs.specs.declared.rings.Both as of_rings
+use Rattle.pairs.specs.declared.vectors.Both as of_vectors
 use Rattle.pairs.specs.Rings as rings
 use Rattle.pairs.specs.Vectors as vectors
 
-module _ (call : Call2) (v w : Ring) (s z s' z' : List ℕ) (a : of-rings.Both) (m : rings.Meets call v s w z a s' z') where
-  pub rings-first-right : v.total.sum ≡ total (list ring (ring-seen.tray v s)) → total (list ring (ring-seen.tray a.first s')) < 2 ^ 64
-      → a.first.total.sum ≡ total (list ring (ring-seen.tray a.first s'))
-  rings-first-right = first-sum ring ring call _ _ (rings.seen2 a s' z') m.row _ _ m.total
+module _ (call : Call2) (v w : Ring) (s z s' z' : List ℕ) (a : of_rings.Both) (m : rings.Meets call v s w z a s' z') where
+  pub rings_first_right : v.total.sum ≡ total (list ring (ring_seen.tray v s)) → total (list ring (ring_seen.tray a.first s')) < 2 ^ 64
+      → a.first.total.sum ≡ total (list ring (ring_seen.tray a.first s'))
+  rings_first_right = first_sum ring ring call _ _ (rings.seen2 a s' z') m.row _ _ m.total
 
-  pub rings-second-right : w.total.sum ≡ total (list ring (ring-seen.tray w z)) → total (list ring (ring-seen.tray a.second z')) < 2 ^ 64
-      → a.second.total.sum ≡ total (list ring (ring-seen.tray a.second z'))
-  rings-second-right = second-sum ring ring call _ _ (rings.seen2 a s' z') m.row _ _ m.total2
+  pub rings_second_right : w.total.sum ≡ total (list ring (ring_seen.tray w z)) → total (list ring (ring_seen.tray a.second z')) < 2 ^ 64
+      → a.second.total.sum ≡ total (list ring (ring_seen.tray a.second z'))
+  rings_second_right = second_sum ring ring call _ _ (rings.seen2 a s' z') m.row _ _ m.total2
 
-module _ (call : Call2) (v w : Vector) (s z s' z' : List ℕ) (a : of-vectors.Both) (m : vectors.Meets call v s w z a s' z') where
-  pub vectors-first-right : v.total.sum ≡ total (list vector (vector-seen.tray v s)) → total (list vector (vector-seen.tray a.first s')) < 2 ^ 64
-      → a.first.total.sum ≡ total (list vector (vector-seen.tray a.first s'))
-  vectors-first-right = first-sum vector vector call _ _ (vectors.seen2 a s' z') m.row _ _ m.total
+module _ (call : Call2) (v w : Vector) (s z s' z' : List ℕ) (a : of_vectors.Both) (m : vectors.Meets call v s w z a s' z') where
+  pub vectors_first_right : v.total.sum ≡ total (list vector (vector_seen.tray v s)) → total (list vector (vector_seen.tray a.first s')) < 2 ^ 64
+      → a.first.total.sum ≡ total (list vector (vector_seen.tray a.first s'))
+  vectors_first_right = first_sum vector vector call _ _ (vectors.seen2 a s' z') m.row _ _ m.total
 
-  pub vectors-second-right : w.total.sum ≡ total (list vector (vector-seen.tray w z)) → total (list vector (vector-seen.tray a.second z')) < 2 ^ 64
-      → a.second.total.sum ≡ total (list vector (vector-seen.tray a.second z'))
-  vectors-second-right = second-sum vector vector call _ _ (vectors.seen2 a s' z') m.row _ _ m.total2
+  pub vectors_second_right : w.total.sum ≡ total (list vector (vector_seen.tray w z)) → total (list vector (vector_seen.tray a.second z')) < 2 ^ 64
+      → a.second.total.sum ≡ total (list vector (vector_seen.tray a.second z'))
+  vectors_second_right = second_sum vector vector call _ _ (vectors.seen2 a s' z') m.row _ _ m.total2

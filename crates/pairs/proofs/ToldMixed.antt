@@ -8,13 +8,13 @@ use Rattle.table.specs.Calls.{Call2}
 use Rattle.table.specs.Does.{refused2, does2}
 use Rattle.table.proofs.Laws.Refusals
 use Rattle.table.proofs.Laws.Equal.{answers}
-use Rattle.table.proofs.Laws.Totalling.{first-same, second-same}
+use Rattle.table.proofs.Laws.Totalling.{first_same, second_same}
 use Rattle.ring.specs.declared.Ring.{Ring}
 use Rattle.ring.specs.Seen as rings
-use Rattle.ring.proofs.Told as rings-told
+use Rattle.ring.proofs.Told as rings_told
 use Rattle.vector.specs.declared.Vector.{Vector}
 use Rattle.vector.specs.Seen as vectors
-use Rattle.vector.proofs.Told as vectors-told
+use Rattle.vector.proofs.Told as vectors_told
 use Rattle.pairs.specs.declared.mixed.Both.{Both}
 use Rattle.pairs.specs.Mixed.{seen2, Meets, says}
 
@@ -26,8 +26,8 @@ meets call first second s z a m value is e small small2 =
     record {
       row = e;
       slot = ap (λ a. a.slot) is;
-      total = ap (λ a. a.first.total.sum) is ∙ first-same ring vector call (rings.tray first s) (vectors.tray second z) _ first.total.sum second.total.sum e' refl small;
-      total2 = ap (λ a. a.second.total.sum) is ∙ second-same ring vector call (rings.tray first s) (vectors.tray second z) _ first.total.sum second.total.sum e' refl small2;
+      total = ap (λ a. a.first.total.sum) is ∙ first_same ring vector call (rings.tray first s) (vectors.tray second z) _ first.total.sum second.total.sum e' refl small;
+      total2 = ap (λ a. a.second.total.sum) is ∙ second_same ring vector call (rings.tray first s) (vectors.tray second z) _ first.total.sum second.total.sum e' refl small2;
     }
 
 module _ (first : Ring) (second : Vector) (s z : List ℕ) (a : Both) where
@@ -39,4 +39,4 @@ module _ (first : Ring) (second : Vector) (s z : List ℕ) (a : Both) where
 
 pub ruleset refusals = (meets, answered, Refusals.refusals)
 
-pub ruleset shown = (meets, told, rings-told.home, vectors-told.home, Refusals.tests)
+pub ruleset shown = (meets, told, rings_told.home, vectors_told.home, Refusals.tests)

@@ -8,7 +8,7 @@ use Rattle.table.specs.Calls.{Call2}
 use Rattle.table.specs.Does.{refused2, does2}
 use Rattle.table.proofs.Laws.Refusals
 use Rattle.table.proofs.Laws.Done2.{gives2}
-use Rattle.table.proofs.Laws.Totalling.{Changes2, first-is, second_is, first-same, second-same, flows2}
+use Rattle.table.proofs.Laws.Totalling.{Changes2, first_is, second_is, first_same, second_same, flows2}
 use Rattle.runs.specs.declared.total.Total.{Total}
 use Rattle.vector.specs.declared.Vector.{Vector}
 use Rattle.vector.specs.Seen.{tray, state}
@@ -17,15 +17,15 @@ use Rattle.pairs.specs.declared.vectors.Both.{Both}
 use Rattle.pairs.specs.Vectors.{seen2, Meets, says}
 
 -- the states are those that were given: a refusal, or a call that moves nothing
-pub meets-kept : (call : Call2) (first second : Vector) (s z : List ℕ) (a : Both) (m value : ℕ) → a ≡ says m value first second
+pub meets_kept : (call : Call2) (first second : Vector) (s z : List ℕ) (a : Both) (m value : ℕ) → a ≡ says m value first second
     → seen2 a s z ≡ does2 vector vector call (tray first s) (tray second z) → first.total.sum < 2 ^ 64 → second.total.sum < 2 ^ 64 → Meets call first s second z a s z
-meets-kept call first second s z a m value is e small small2 =
+meets_kept call first second s z a m value is e small small2 =
     let e' : seen2 (says m value first second) s z ≡ does2 vector vector call (tray first s) (tray second z) = ap (λ a. seen2 a s z) (sym is) ∙ e in
     record {
       row = e;
       slot = ap (λ a. a.slot) is;
-      total = ap (λ a. a.first.total.sum) is ∙ first-same vector vector call (tray first s) (tray second z) _ first.total.sum second.total.sum e' refl small;
-      total2 = ap (λ a. a.second.total.sum) is ∙ second-same vector vector call (tray first s) (tray second z) _ first.total.sum second.total.sum e' refl small2;
+      total = ap (λ a. a.first.total.sum) is ∙ first_same vector vector call (tray first s) (tray second z) _ first.total.sum second.total.sum e' refl small;
+      total2 = ap (λ a. a.second.total.sum) is ∙ second_same vector vector call (tray first s) (tray second z) _ first.total.sum second.total.sum e' refl small2;
     }
 
 -- a call that is done, with the states afterwards
@@ -38,7 +38,7 @@ meets call first second s z s' z' a value f g is e c =
     record {
       row = e;
       slot = ap (λ a. a.slot) is;
-      total = ap (λ a. a.first.total.sum) is ∙ first-is vector vector call (tray first s) (tray second z) _ _ _ e' _ _ refl c;
+      total = ap (λ a. a.first.total.sum) is ∙ first_is vector vector call (tray first s) (tray second z) _ _ _ e' _ _ refl c;
       total2 = ap (λ a. a.second.total.sum) is ∙ second_is vector vector call (tray first s) (tray second z) _ _ _ e' _ _ refl c;
     }
 
@@ -50,17 +50,17 @@ answered first second s s2 a m e = ap (λ a. seen2 a s s2) e
 pub told : (s s2 : List ℕ) (a : Both) (value n n2 : ℕ) (t t2 : Total) → a ≡ says 0 value (state n t) (state n2 t2) → seen2 a s s2 ≡ gives2 value 0 n s 0 n2 s2
 told s s2 a value n n2 t t2 e = ap (λ a. seen2 a s s2) e
 
-pub told-first : (first : Vector) (s s2 : List ℕ) (a : Both) (value n2 : ℕ) (t2 : Total) → a ≡ says 0 value first (state n2 t2)
+pub told_first : (first : Vector) (s s2 : List ℕ) (a : Both) (value n2 : ℕ) (t2 : Total) → a ≡ says 0 value first (state n2 t2)
     → seen2 a s s2 ≡ gives2 value 0 first.len s 0 n2 s2
-told-first first s s2 a value n2 t2 e = ap (λ a. seen2 a s s2) e
+told_first first s s2 a value n2 t2 e = ap (λ a. seen2 a s s2) e
 
-pub told-both : (first second : Vector) (s s2 : List ℕ) (a : Both) (value : ℕ) → a ≡ says 0 value first second
+pub told_both : (first second : Vector) (s s2 : List ℕ) (a : Both) (value : ℕ) → a ≡ says 0 value first second
     → seen2 a s s2 ≡ gives2 value 0 first.len s 0 second.len s2
-told-both first second s s2 a value e = ap (λ a. seen2 a s s2) e
+told_both first second s s2 a value e = ap (λ a. seen2 a s s2) e
 
-pub ruleset refusals = (meets-kept, answered, Refusals.refusals)
+pub ruleset refusals = (meets_kept, answered, Refusals.refusals)
 
 -- of a call that leaves both states as they were, and of one that changes them
-pub ruleset stays = (meets-kept, told-both, home, Refusals.tests)
+pub ruleset stays = (meets_kept, told_both, home, Refusals.tests)
 
-pub ruleset shown = (meets, told, told-first, home, flows2, Refusals.tests)
+pub ruleset shown = (meets, told, told_first, home, flows2, Refusals.tests)

@@ -19,34 +19,34 @@ use Rattle.pairs.proofs.rings as fn
 -- In what follows v and s are the ring named first and its slots, w and z are T and its slots, r is the result, and e the arguments as they are at the
 -- return: `e.1.0` are the first's slots then, and the other of e are T's.
 module _ (κs : Lfts 2) (v w : Ring) (s z : Bor (List ℕ)) (r : Both) (e : AtExit fn.append.ended κs) (learnt : fn.append.Reads.Learnt κs (v, (s, (w, (z, tt)))) r e) where
-  pub append-list : r.number ≡ 0 → view r.first e.1.0 ≡ view v s ++ view w z
-  append-list = law.append-list ring ring _ _ _ learnt.row
+  pub append_list : r.number ≡ 0 → view r.first e.1.0 ≡ view v s ++ view w z
+  append_list = law.append_list ring ring _ _ _ learnt.row
 
-  pub append-other : r.number ≡ 0 → view r.second e.1.1.1.0 ≡ []
-  append-other = law.append-other ring ring _ _ _ learnt.row
+  pub append_other : r.number ≡ 0 → view r.second e.1.1.1.0 ≡ []
+  append_other = law.append_other ring ring _ _ _ learnt.row
 
-  pub append-answers : Valid v s → Valid w z → IfRoom r.number (length s.now) (length (view v s)) (length (view w z))
-  append-answers ok ok2 = law.append-answers ring ring _ _ _ ok ok2 learnt.row
+  pub append_answers : Valid v s → Valid w z → IfRoom r.number (length s.now) (length (view v s)) (length (view w z))
+  append_answers ok ok2 = law.append_answers ring ring _ _ _ ok ok2 learnt.row
 
 module _ (κs : Lfts 2) (v w : Ring) (s z : Bor (List ℕ)) (at : ℕ) (r : Both) (e : AtExit fn.split_off.ended κs) (learnt : fn.split_off.Reads.Learnt κs (v, (s, (at, (w, (z, tt))))) r e) where
-  pub split-off-list : r.number ≡ 0 → view r.first e.1.0 ≡ take at (view v s)
-  split-off-list = law.split-off-list ring ring _ _ _ _ learnt.row
+  pub split_off_list : r.number ≡ 0 → view r.first e.1.0 ≡ take at (view v s)
+  split_off_list = law.split_off_list ring ring _ _ _ _ learnt.row
 
-  pub split-off-other : r.number ≡ 0 → view r.second e.1.1.1.1.0 ≡ drop at (view v s)
-  split-off-other = law.split-off-other ring ring _ _ _ _ learnt.row
+  pub split_off_other : r.number ≡ 0 → view r.second e.1.1.1.1.0 ≡ drop at (view v s)
+  split_off_other = law.split_off_other ring ring _ _ _ _ learnt.row
 
-  pub split-off-answers : Valid v s → Valid w z → IfSplits r.number (length (view v s)) at (length z.now) (length (view w z))
-  split-off-answers ok ok2 = law.split-off-answers ring ring _ _ _ ok ok2 _ learnt.row
+  pub split_off_answers : Valid v s → Valid w z → IfSplits r.number (length (view v s)) at (length z.now) (length (view w z))
+  split_off_answers ok ok2 = law.split_off_answers ring ring _ _ _ ok ok2 _ learnt.row
 
 module _ (κs : Lfts 2) (v w : Ring) (s z : Bor (List ℕ)) (r : Both) (e : AtExit fn.clone.ended κs) (learnt : fn.clone.Reads.Learnt κs (v, (s, (w, (z, tt)))) r e) where
-  pub clone-list : r.number ≡ 0 → view r.second e.1.1.1.0 ≡ view v s
-  clone-list = law.clone-list ring ring _ _ _ learnt.row
+  pub clone_list : r.number ≡ 0 → view r.second e.1.1.1.0 ≡ view v s
+  clone_list = law.clone_list ring ring _ _ _ learnt.row
 
-  pub clone-length : r.number ≡ 0 → length (view r.second e.1.1.1.0) ≡ length (view v s)
-  clone-length = law.clone-length ring ring _ _ _ learnt.row
+  pub clone_length : r.number ≡ 0 → length (view r.second e.1.1.1.0) ≡ length (view v s)
+  clone_length = law.clone_length ring ring _ _ _ learnt.row
 
-  pub clone-entry : r.number ≡ 0 → (i : ℕ) → i < length (view v s) → get_or (view r.second e.1.1.1.0) i 0 ≡ get_or (view v s) i 0
-  clone-entry = law.clone-entry ring ring _ _ _ learnt.row
+  pub clone_entry : r.number ≡ 0 → (i : ℕ) → i < length (view v s) → get_or (view r.second e.1.1.1.0) i 0 ≡ get_or (view v s) i 0
+  clone_entry = law.clone_entry ring ring _ _ _ learnt.row
 
-  pub clone-answers : Valid v s → Valid w z → IfTakes r.number (length z.now) (length (view w z)) (length (view v s))
-  clone-answers ok ok2 = law.clone-answers ring ring _ _ _ ok ok2 learnt.row
+  pub clone_answers : Valid v s → Valid w z → IfTakes r.number (length z.now) (length (view w z)) (length (view v s))
+  clone_answers ok ok2 = law.clone_answers ring ring _ _ _ ok ok2 learnt.row

@@ -5,7 +5,7 @@ use Rattle.table.specs.Tray.{nowhere}
 use Rattle.table.specs.Calls.{Call2}
 use Rattle.table.specs.Does.{Outcome2, does2}
 use Rattle.table.specs.Reported.{no_slot}
-use Rattle.table.specs.Totals.{totalFirst, totalSecond}
+use Rattle.table.specs.Totals.{total_first, total_second}
 use Rattle.ring.specs.declared.Ring.{Ring}
 use Rattle.ring.specs.Seen as rings
 use Rattle.vector.specs.declared.Vector.{Vector}
@@ -27,8 +27,8 @@ seen2 a slots theirs = record {
 pub record Meets (call : Call2) (first : Ring) (s : List ℕ) (second : Vector) (z : List ℕ) (a : Both) (s' z' : List ℕ) : Type 0 where
   pub row : seen2 a s' z' ≡ does2 ring vector call (rings.tray first s) (vectors.tray second z)
   pub slot : a.slot ≡ no_slot
-  pub total : a.first.total.sum ≡ totalFirst ring vector call (rings.tray first s) (vectors.tray second z) first.total.sum
-  pub total2 : a.second.total.sum ≡ totalSecond ring vector call (rings.tray first s) (vectors.tray second z) second.total.sum
+  pub total : a.first.total.sum ≡ total_first ring vector call (rings.tray first s) (vectors.tray second z) first.total.sum
+  pub total2 : a.second.total.sum ≡ total_second ring vector call (rings.tray first s) (vectors.tray second z) second.total.sum
 
 -- what the function `says` puts together
 abbrev pub says : (number value : ℕ) → (first : Ring) (second : Vector) → Both

@@ -5,7 +5,7 @@ use Rattle.table.specs.Tray.{nowhere}
 use Rattle.table.specs.Calls.{Call2}
 use Rattle.table.specs.Does.{Outcome2, does2}
 use Rattle.table.specs.Reported.{no_slot}
-use Rattle.table.specs.Totals.{totalFirst, totalSecond}
+use Rattle.table.specs.Totals.{total_first, total_second}
 use Rattle.ring.specs.declared.Ring.{Ring}
 use Rattle.ring.specs.Seen.{tray}
 use Rattle.pairs.specs.declared.rings.Both.{Both}
@@ -25,8 +25,8 @@ seen2 a slots theirs = record {
 pub record Meets (call : Call2) (first : Ring) (s : List ℕ) (second : Ring) (z : List ℕ) (a : Both) (s' z' : List ℕ) : Type 0 where
   pub row : seen2 a s' z' ≡ does2 ring ring call (tray first s) (tray second z)
   pub slot : a.slot ≡ no_slot
-  pub total : a.first.total.sum ≡ totalFirst ring ring call (tray first s) (tray second z) first.total.sum
-  pub total2 : a.second.total.sum ≡ totalSecond ring ring call (tray first s) (tray second z) second.total.sum
+  pub total : a.first.total.sum ≡ total_first ring ring call (tray first s) (tray second z) first.total.sum
+  pub total2 : a.second.total.sum ≡ total_second ring ring call (tray first s) (tray second z) second.total.sum
 
 -- what the function `says` puts together
 abbrev pub says : (number value : ℕ) → (first second : Ring) → Both

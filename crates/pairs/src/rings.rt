@@ -1,13 +1,13 @@
 // Calls on two rings. What is refused is refused before the first slot is written, and entries go over by whole runs of slots. Nothing to carry is
 // a return of its own: a ring on no slots has no slot to carry from or to.
 ghost use Rattle.std.specs.Prelude.{◌≡◌, ◌+◌, ◌-◌, ◌^◌, ◌<◌, length, drop};
-ghost use Rattle.table.specs.Calls.{append, splitOff, clone, same};
+ghost use Rattle.table.specs.Calls.{append, split_off, clone, same};
 ghost use Rattle.slots.specs.Layout.{ring, slot_of, entries};
 ghost use Rattle.slots.specs.Shift.{Filled, Reach};
 ghost use Rattle.slots.specs.Copy.{Laid};
 ghost use Rattle.slots.specs.Total.{total, changed};
 ghost use Rattle.runs.specs.Width.{summing};
-ghost use Rattle.table.specs.Does.{headAfter};
+ghost use Rattle.table.specs.Does.{head_after};
 ghost use Rattle.ring.specs.Seen.{state};
 ghost use Rattle.pairs.specs.Rings.{Meets, says};
 
@@ -67,7 +67,7 @@ pub fn split_off(
     second: Ring,
     theirs: &mut [u32],
 ) -> Both
-    ensures { Meets (splitOff at) first slots.old second theirs.old result slots.new theirs.new }
+    ensures { Meets (split_off at) first slots.old second theirs.old result slots.new theirs.new }
 {
     let cap = slots.len();
     let head = first.head;
@@ -222,7 +222,7 @@ fn split(
     other: Total,
 ) -> Both
     requires { Reach (length slots.old) head at len × Reach (length theirs.old) 0 0 (0 + (len - at)) }
-    ensures { Laid (slot_of (length theirs.old) 0) 0 (len - at) (drop at (entries (slot_of (length slots.old) head) len slots.old)) theirs.old theirs.new × Filled (slot_of (length slots.old) head) at len 0 slots.old slots.new × (result ≡ says 0 0 (state (headAfter ring at head) at (summing (changed ours.sum 0 (total (drop at (entries (slot_of (length slots.old) head) len slots.old)))))) (state 0 (len - at) (summing (changed other.sum (total (drop at (entries (slot_of (length slots.old) head) len slots.old))) 0)))) }
+    ensures { Laid (slot_of (length theirs.old) 0) 0 (len - at) (drop at (entries (slot_of (length slots.old) head) len slots.old)) theirs.old theirs.new × Filled (slot_of (length slots.old) head) at len 0 slots.old slots.new × (result ≡ says 0 0 (state (head_after ring at head) at (summing (changed ours.sum 0 (total (drop at (entries (slot_of (length slots.old) head) len slots.old)))))) (state 0 (len - at) (summing (changed other.sum (total (drop at (entries (slot_of (length slots.old) head) len slots.old))) 0)))) }
 {
     let sum = hand_over(theirs, 0, 0, slots, head, at, len);
     let first = ring::left(head, at, total::less(ours, sum));

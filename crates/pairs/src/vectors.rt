@@ -1,6 +1,6 @@
 // Calls on two vectors. What is refused is refused before the first slot is written, and entries go over as one run of slots.
 ghost use Rattle.std.specs.Prelude.{◌≡◌, ◌+◌, ◌-◌, ◌^◌, ◌≤◌, ◌<◌, length, drop};
-ghost use Rattle.table.specs.Calls.{append, splitOff, clone, same};
+ghost use Rattle.table.specs.Calls.{append, split_off, clone, same};
 ghost use Rattle.slots.specs.Layout.{most, itself, entries};
 ghost use Rattle.slots.specs.Shift.{Filled};
 ghost use Rattle.slots.specs.Copy.{Laid};
@@ -51,7 +51,7 @@ pub fn split_off(
     second: Vector,
     theirs: &mut [u32],
 ) -> Both
-    ensures { Meets (splitOff at) first slots.old second theirs.old result slots.new theirs.new }
+    ensures { Meets (split_off at) first slots.old second theirs.old result slots.new theirs.new }
 {
     let len = first.len;
     if table::invalid_vector(slots.len(), len) {

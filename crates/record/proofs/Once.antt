@@ -5,10 +5,10 @@ use contract.Lifetimes.{Lfts}
 use Prim.Native.Nat.{ℕ}
 use Rattle.slots.proofs.Twice.{Twice}
 use Rattle.table.specs.Reported.{no_slot}
-use Rattle.table.proofs.Theorems.Unique.{one-answer2}
+use Rattle.table.proofs.Theorems.Unique.{one_answer2}
 use Rattle.vector.specs.Seen.{tray, state}
 use Rattle.pairs.specs.Vectors.{seen2}
-use Rattle.record.specs.Recorded.{totalStarts, totalEnds}
+use Rattle.record.specs.Recorded.{total_starts, total_ends}
 use Rattle.record.specs.Unquoted.{Unquoted}
 use Rattle.record.specs.contracts.read as read·fn
 use Rattle.record.proofs.read.Reads as read·reads
@@ -18,20 +18,20 @@ use Rattle.record.proofs.texts as texts
 
 -- In what follows a are the arguments, r and r' are results, and e and e' the arguments as they are at the return.
 module _ (κs : Lfts 3) where
-  pub read-once : Twice read·fn.ended κs (read·reads.Learnt κs) (λ r e r' e'. (r ≡ r') × (e.1.1.0.now ≡ e'.1.1.0.now) × (e.1.1.1.1.0.now ≡ e'.1.1.1.1.0.now))
-  read-once a r r' e e' p q =
+  pub read_once : Twice read·fn.ended κs (read·reads.Learnt κs) (λ r e r' e'. (r ≡ r') × (e.1.1.0.now ≡ e'.1.1.0.now) × (e.1.1.1.1.0.now ≡ e'.1.1.1.1.0.now))
+  read_once a r r' e e' p q =
       let t = tray a.1.0 a.1.1.0.now in
       let t2 = tray a.1.1.1.0 a.1.1.1.1.0.now in
-      one-answer2 {B = ℕ × ℕ × ℕ} seen2 (λ r. (r.slot, r.first.total.sum, r.second.total.sum)) (λ o b. record { number = o.number; value = o.value; moves = o.moves; slot = b.0; first = state o.first.len (record { sum = b.1 }); second = state o.second.len (record { sum = b.2 }) })
+      one_answer2 {B = ℕ × ℕ × ℕ} seen2 (λ r. (r.slot, r.first.total.sum, r.second.total.sum)) (λ o b. record { number = o.number; value = o.value; moves = o.moves; slot = b.0; first = state o.first.len (record { sum = b.1 }); second = state o.second.len (record { sum = b.2 }) })
       (λ r s s2. refl) (λ r s s2. refl) (λ r s s2. refl) _
-      (no_slot, totalStarts a.0.now t t2 a.1.0.total.sum, totalEnds a.0.now t t2 a.1.1.1.0.total.sum) r r' _ _ _ _ p.row q.row (cc (p.slot, p.total, p.total2)) (cc (q.slot, q.total, q.total2))
+      (no_slot, total_starts a.0.now t t2 a.1.0.total.sum, total_ends a.0.now t t2 a.1.1.1.0.total.sum) r r' _ _ _ _ p.row q.row (cc (p.slot, p.total, p.total2)) (cc (q.slot, q.total, q.total2))
 
 module _ (κs : Lfts 1) where
-  pub judge-once : Twice judge·fn.ended κs (judge·reads.Learnt κs) (λ r e r' e'. r ≡ r')
-  judge-once a r r' e e' p q = p ∙ sym q
+  pub judge_once : Twice judge·fn.ended κs (judge·reads.Learnt κs) (λ r e r' e'. r ≡ r')
+  judge_once a r r' e e' p q = p ∙ sym q
 
 module _ (κs : Lfts 2) where
-  pub field-text-once : Twice texts.field_text.ended κs (texts.field_text.Reads.Learnt κs) (λ r e r' e'. (r ≡ r') × (e.1.1.1.0.now ≡ e'.1.1.1.0.now))
-  field-text-once a r r' e e' p q =
+  pub field_text_once : Twice texts.field_text.ended κs (texts.field_text.Reads.Learnt κs) (λ r e r' e'. (r ≡ r') × (e.1.1.1.0.now ≡ e'.1.1.1.0.now))
+  field_text_once a r r' e e' p q =
       let same = p.row ∙ sym q.row in
       (ap (λ (u : Unquoted). u.answer) same, ap (λ (u : Unquoted). u.out) same)

@@ -9,15 +9,15 @@ use Rattle.record.specs.Places.{firsts, lasts}
 use Rattle.record.specs.Where.{Bad, Unclosed, BadAt, OpenedAt}
 
 pub data Applies (text : List ℕ) (t t2 : Tray) : ℕ → Type 0 where
-  first-invalid : invalid vector t ≡ true → Applies text t t2 1
-  second-invalid : invalid vector t2 ≡ true → Applies text t t2 2
+  first_invalid_law : invalid vector t ≡ true → Applies text t t2 1
+  second_invalid_law : invalid vector t2 ≡ true → Applies text t t2 2
   first_taken : (t.len ≡ 0 → ⊥) → Applies text t t2 5
-  second-taken : (t2.len ≡ 0 → ⊥) → Applies text t t2 5
+  second_taken : (t2.len ≡ 0 → ⊥) → Applies text t t2 5
   too_long : 65535 < length text → Applies text t t2 11
-  not-allowed : Bad text → Applies text t t2 9
-  never-closed : Unclosed text → Applies text t t2 10
-  few-starts : {fields : List (ℕ × ℕ)} {next : ℕ} → Reads text fields next → cap t < length fields → Applies text t t2 6
-  few-ends : {fields : List (ℕ × ℕ)} {next : ℕ} → Reads text fields next → cap t2 < length fields → Applies text t t2 6
+  not_allowed : Bad text → Applies text t t2 9
+  never_closed : Unclosed text → Applies text t t2 10
+  few_starts : {fields : List (ℕ × ℕ)} {next : ℕ} → Reads text fields next → cap t < length fields → Applies text t t2 6
+  few_ends : {fields : List (ℕ × ℕ)} {next : ℕ} → Reads text fields next → cap t2 < length fields → Applies text t t2 6
 
 -- the first of some numbers that applies, and 0 where none does
 abbrev pub First : (applies : ℕ → Type 0) (order : List ℕ) (m : ℕ) → Type 0

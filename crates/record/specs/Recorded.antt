@@ -34,16 +34,16 @@ first_of refuse [] done = done
 first_of refuse (r ∷ rest) done = cond r.0 (refuse r.1) (first_of refuse rest done)
 
 -- either vector invalid; either not empty; the text too long: whatever it says
-abbrev pub earlyTests : (c n c2 n2 size : ℕ) → List (Bool × ℕ)
-earlyTests c n c2 n2 size =
+abbrev pub early_tests : (c n c2 n2 size : ℕ) → List (Bool × ℕ)
+early_tests c n c2 n2 size =
     (not (valid vector c 0 n), 1) ∷ (not (valid vector c2 0 n2), 2) ∷ (holding n, 5) ∷ (holding n2, 5) ∷ (ltb longest size, 11) ∷ []
 
 unfoldable pub early : (c n c2 n2 size : ℕ) → ℕ
-early c n c2 n2 size = first_of (λ m. m) (earlyTests c n c2 n2 size) 0
+early c n c2 n2 size = first_of (λ m. m) (early_tests c n c2 n2 size) 0
 
 -- 9 or 10, whichever is met first; then no room for the fields in either
-abbrev pub lateTests : (text : List ℕ) (c c2 : ℕ) → List (Bool × ℕ)
-lateTests text c c2 =
+abbrev pub late_tests : (text : List ℕ) (c c2 : ℕ) → List (Bool × ℕ)
+late_tests text c c2 =
     (not (eqb (number_of (scanned text).ending) 0), number_of (scanned text).ending)
     ∷ (ltb c (length (scanned text).fields), 6) ∷ (ltb c2 (length (scanned text).fields), 6) ∷ []
 
@@ -62,34 +62,34 @@ places text t t2 = record {
 unfoldable pub records : (text : List ℕ) (t t2 : Tray) → Outcome2
 records text t t2 =
     first_of (refused2 t t2 nowhere)
-    (earlyTests (cap t) t.len (cap t2) t2.len (length text) ++ lateTests text (cap t) (cap t2))
+    (early_tests (cap t) t.len (cap t2) t2.len (length text) ++ late_tests text (cap t) (cap t2))
     (places text t t2)
 
 -- The total n of the vector that the starts go on, once the text was read or refused, and of the one that the ends go on (request 04): read off its list before and
 -- after, as `table/Totals` has it of a call on two.
-unfoldable pub totalStarts : (text : List ℕ) (t t2 : Tray) → (n : ℕ) → ℕ
-totalStarts text t t2 n = totalled n (list vector t) (list vector (records text t t2).first)
+unfoldable pub total_starts : (text : List ℕ) (t t2 : Tray) → (n : ℕ) → ℕ
+total_starts text t t2 n = totalled n (list vector t) (list vector (records text t t2).first)
 
-unfoldable pub totalEnds : (text : List ℕ) (t t2 : Tray) → (n : ℕ) → ℕ
-totalEnds text t t2 n = totalled n (list vector t2) (list vector (records text t t2).second)
+unfoldable pub total_ends : (text : List ℕ) (t t2 : Tray) → (n : ℕ) → ℕ
+total_ends text t t2 n = totalled n (list vector t2) (list vector (records text t t2).second)
 
 -- The promise of `read` on a text and two vectors whose slots held s and z: its answer a and what the slots hold afterwards. It
 -- reports no slot, and each state has the total, as it comes from the one that was given.
 pub record Records (text : List ℕ) (first : Vector) (s : List ℕ) (second : Vector) (z : List ℕ) (a : Both) (s' z' : List ℕ) : Type 0 where
   pub row : seen2 a s' z' ≡ records text (tray first s) (tray second z)
   pub slot : a.slot ≡ no_slot
-  pub total : a.first.total.sum ≡ totalStarts text (tray first s) (tray second z) first.total.sum
-  pub total2 : a.second.total.sum ≡ totalEnds text (tray first s) (tray second z) second.total.sum
+  pub total : a.first.total.sum ≡ total_starts text (tray first s) (tray second z) first.total.sum
+  pub total2 : a.second.total.sum ≡ total_ends text (tray first s) (tray second z) second.total.sum
 
 -- The call as demand 3 takes it: of two vectors, and the starts and ends enter.
-abbrev pub twoVectors : (k k2 : Kind) → Bool
-twoVectors vector vector = true
-twoVectors vector ring = false
-twoVectors ring k2 = false
+abbrev pub two_vectors : (k k2 : Kind) → Bool
+two_vectors vector vector = true
+two_vectors vector ring = false
+two_vectors ring k2 = false
 
 abbrev pub recording : (text : List ℕ) → Promise2
 recording text = record {
-  has = twoVectors;
+  has = two_vectors;
   does = λ k k2 t t2. records text t t2;
   rule = record {
     after = λ l l2. (l ++ firsts (scanned text).fields, l2 ++ lasts (scanned text).fields);

@@ -19,33 +19,33 @@ unfoldable pub any : (ends : ℕ → Bool) → List ℕ → Bool
 any ends [] = false
 any ends (b ∷ s) = ends b || any ends s
 
-abbrev pub isQuote : (b : ℕ) → Bool
-isQuote b = eqb b quote
+abbrev pub is_quote : (b : ℕ) → Bool
+is_quote b = eqb b quote
 
 -- how many bytes of a quoted field come before the quote that closes it
 unfoldable mutual
-  pub bodyRun : List ℕ → ℕ
-  bodyRun [] = 0
-  bodyRun (b ∷ s) = cond (isQuote b) (pairRun s) (bodyRun s + 1)
+  pub body_run : List ℕ → ℕ
+  body_run [] = 0
+  body_run (b ∷ s) = cond (is_quote b) (pair_run s) (body_run s + 1)
 
-  pub pairRun : List ℕ → ℕ
-  pairRun [] = 0
-  pairRun (b ∷ s) = cond (isQuote b) (bodyRun s + 2) 0
+  pub pair_run : List ℕ → ℕ
+  pair_run [] = 0
+  pair_run (b ∷ s) = cond (is_quote b) (body_run s + 2) 0
 
 -- the field whose bytes start at a position, between quotes or not
-abbrev pub quotedAt : (start : ℕ) (s : List ℕ) → Found
-quotedAt start s = cond (ltb (bodyRun s) (length s)) (Field start (start + bodyRun s) (start + bodyRun s + 1)) Unclosed
+abbrev pub quoted_at : (start : ℕ) (s : List ℕ) → Found
+quoted_at start s = cond (ltb (body_run s) (length s)) (Field start (start + body_run s) (start + body_run s + 1)) Unclosed
 
-abbrev pub plainAt : (start : ℕ) (s : List ℕ) → Found
-plainAt start s = Field start (start + run special s) (start + run special s)
+abbrev pub plain_at : (start : ℕ) (s : List ℕ) → Found
+plain_at start s = Field start (start + run special s) (start + run special s)
 
 abbrev pub field_at : (text : List ℕ) (at : ℕ) → Found
-field_at text at = cond (starts quote (drop at text)) (quotedAt (at + 1) (drop (at + 1) text)) (plainAt at (drop at text))
+field_at text at = cond (starts quote (drop at text)) (quoted_at (at + 1) (drop (at + 1) text)) (plain_at at (drop at text))
 
 -- what stands behind a field
-abbrev pub stopOf : (at : ℕ) (s : List ℕ) → Stop
-stopOf at [] = End at
-stopOf at (b ∷ s) =
+abbrev pub stop_of : (at : ℕ) (s : List ℕ) → Stop
+stop_of at [] = End at
+stop_of at (b ∷ s) =
     cond (eqb b comma) Comma
     (cond (eqb b lf) (End (at + 1))
     (cond (eqb b cr && starts lf s) (End (at + 2)) Bad))
@@ -61,21 +61,21 @@ place_of (done next) = next
 place_of (bad at) = at
 place_of (unclosed at) = at
 
-abbrev pub comesTo : (number count at : ℕ) → Verdict
-comesTo number count at = record { number = number; count = count; at = at }
+abbrev pub comes_to : (number count at : ℕ) → Verdict
+comes_to number count at = record { number = number; count = count; at = at }
 
 abbrev pub tally : (k : ℕ) → Reading → Verdict
-tally k r = comesTo (number_of r.ending) (k + length r.fields) (place_of r.ending)
+tally k r = comes_to (number_of r.ending) (k + length r.fields) (place_of r.ending)
 
 -- the position behind the byte at a position of a field, of which two quotes are one
 abbrev pub past : (s : List ℕ) (at : ℕ) → ℕ
 past s at = cond (eqb (get_or s at 0) quote && starts quote (drop (at + 1) s)) (at + 2) (at + 1)
 
 -- a text was judged: it has so many fields, and the places of the first sixteen were kept
-pub record Judged (text : List ℕ) (count : ℕ) (kept kept-ends : List ℕ) : Type 0 where
+pub record Judged (text : List ℕ) (count : ℕ) (kept kept_ends : List ℕ) : Type 0 where
   pub short : length text ≤ 65535
   pub counted : count ≡ length (scanned text).fields
   pub long : length kept ≡ 16
-  pub long-too : length kept-ends ≡ 16
-  pub starts-kept : count ≤ 16 → take count kept ≡ firsts (scanned text).fields
-  pub ends-kept : count ≤ 16 → take count kept-ends ≡ lasts (scanned text).fields
+  pub long_too : length kept_ends ≡ 16
+  pub starts_kept : count ≤ 16 → take count kept ≡ firsts (scanned text).fields
+  pub ends_kept : count ≤ 16 → take count kept_ends ≡ lasts (scanned text).fields

@@ -13,6 +13,6 @@ abbrev pub part : (text : List ℕ) (start end : ℕ) → List ℕ
 part text start end = take (end - start) (drop start text)
 
 -- the fields' own bytes
-unfoldable pub ownBytes : (text : List ℕ) (fields : List (ℕ × ℕ)) → List (List ℕ)
-ownBytes text [] = []
-ownBytes text (f ∷ fields) = undone (part text f.0 f.1) ∷ ownBytes text fields
+unfoldable pub own_bytes : (text : List ℕ) (fields : List (ℕ × ℕ)) → List (List ℕ)
+own_bytes text [] = []
+own_bytes text (f ∷ fields) = undone (part text f.0 f.1) ∷ own_bytes text fields

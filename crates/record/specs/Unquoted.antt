@@ -14,8 +14,8 @@ abbrev pub unquoted : Told → List ℕ → Unquoted
 unquoted answer out = record { answer = answer; out = out }
 
 -- a text too long; a start and an end that are none of it; a lent text too short
-abbrev pub textTests : (text : List ℕ) (start end : ℕ) (out : List ℕ) → List (Bool × ℕ)
-textTests text start end out =
+abbrev pub text_tests : (text : List ℕ) (start end : ℕ) (out : List ℕ) → List (Bool × ℕ)
+text_tests text start end out =
     (ltb longest (length text), 11) ∷ (not (within start end (length text)), 3) ∷ (ltb (length out) (length (undone (part text start end))), 6) ∷ []
 
 -- the field's bytes, then what stood there
@@ -24,7 +24,7 @@ before new old = new ++ drop (length new) old
 
 unfoldable pub unquotes : (text : List ℕ) (start end : ℕ) (out : List ℕ) → Unquoted
 unquotes text start end out =
-    first_of (λ m. unquoted (told m 0) out) (textTests text start end out)
+    first_of (λ m. unquoted (told m 0) out) (text_tests text start end out)
     (unquoted (told 0 (length (undone (part text start end)))) (before (undone (part text start end)) out))
 
 -- The promise of `field_text`.

@@ -4,12 +4,12 @@ use Rattle.record.specs.Grammar.{comma, quote, Body, Fields, Fits}
 
 -- no record starts the text, not even with a quote at its end (9); or none does, but one would with a quote at its end (10)
 pub record Bad (text : List ℕ) : Type 0 where
-  pub no-fit : Fits text → ⊥
-  pub not-with-quote : Fits (text ++ (quote ∷ [])) → ⊥
+  pub no_fit : Fits text → ⊥
+  pub not_with_quote : Fits (text ++ (quote ∷ [])) → ⊥
 
 pub record Unclosed (text : List ℕ) : Type 0 where
-  pub no-fit : Fits text → ⊥
-  pub with-quote : Fits (text ++ (quote ∷ []))
+  pub no_fit : Fits text → ⊥
+  pub with_quote : Fits (text ++ (quote ∷ []))
 
 -- Of a text that is bad, the byte at p is at fault: cut before it the text fits, cut behind it it does not, and would not with a quote at its end. (Of a
 -- text that fits, a CR with its LF behind it is such a byte too.)

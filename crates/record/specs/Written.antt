@@ -6,10 +6,10 @@ unfoldable pub doubled : List ℕ → List ℕ
 doubled [] = []
 doubled (b ∷ s) = cond (eqb b quote) (quote ∷ quote ∷ doubled s) (b ∷ doubled s)
 
-abbrev pub quotedField : List ℕ → List ℕ
-quotedField f = quote ∷ (doubled f ++ (quote ∷ []))
+abbrev pub quoted_field : List ℕ → List ℕ
+quoted_field f = quote ∷ (doubled f ++ (quote ∷ []))
 
 unfoldable pub written : List (List ℕ) → List ℕ
 written [] = []
-written (f ∷ []) = quotedField f
-written (f ∷ g ∷ fs) = quotedField f ++ (comma ∷ written (g ∷ fs))
+written (f ∷ []) = quoted_field f
+written (f ∷ g ∷ fs) = quoted_field f ++ (comma ∷ written (g ∷ fs))

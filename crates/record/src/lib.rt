@@ -6,7 +6,7 @@ ghost use Rattle.std.specs.Prelude.{◌≡◌, ◌+◌, ◌≤◌, ◌<◌, leng
 ghost use Rattle.std.proofs.lemmas.List.Edits.{sets};
 ghost use Rattle.record.specs.Scan.{special, starts, scanned};
 ghost use Rattle.record.specs.Places.{firsts, lasts};
-ghost use Rattle.record.specs.Steps.{run, any, isQuote, bodyRun, field_at, stopOf, number_of, comesTo, tally, Judged};
+ghost use Rattle.record.specs.Steps.{run, any, is_quote, body_run, field_at, stop_of, number_of, comes_to, tally, Judged};
 ghost use Rattle.record.specs.Recorded.{longest, early, Records};
 
 use pairs::vectors::Both;
@@ -75,7 +75,7 @@ fn plain_end(text: &[u8], from: usize) -> usize
 // Whether a quote stands among sixteen bytes. There is no exit inside, so that the compiler looks at all of them at once.
 fn quote_among(text: &[u8], at: usize) -> bool
     requires { at + 16 ≤ length text.now }
-    ensures { result ≡ any isQuote (take 16 (drop at text.now)) }
+    ensures { result ≡ any is_quote (take 16 (drop at text.now)) }
 {
     let mut found = false;
     let mut j = 0;
@@ -89,7 +89,7 @@ fn quote_among(text: &[u8], at: usize) -> bool
 // Blocks without a quote are passed.
 fn clear_blocks(text: &[u8], from: usize) -> usize
     requires { from ≤ length text.now }
-    ensures { (result ≤ length text.now) × (result + run isQuote (drop result text.now) ≡ from + run isQuote (drop from text.now)) }
+    ensures { (result ≤ length text.now) × (result + run is_quote (drop result text.now) ≡ from + run is_quote (drop from text.now)) }
 {
     let mut i = from;
     while 16 <= text.len() - i {
@@ -104,7 +104,7 @@ fn clear_blocks(text: &[u8], from: usize) -> usize
 // Where the next quote stands, or the end of the text.
 fn next_quote(text: &[u8], from: usize) -> usize
     requires { from ≤ length text.now }
-    ensures { result ≡ from + run isQuote (drop from text.now) }
+    ensures { result ≡ from + run is_quote (drop from text.now) }
 {
     let mut i = clear_blocks(text, from);
     while i < text.len() {
@@ -120,7 +120,7 @@ fn next_quote(text: &[u8], from: usize) -> usize
 // Where the quote stands that closes a field, or the end of the text. Two quotes are one byte of the field.
 fn quoted_end(text: &[u8], from: usize) -> usize
     requires { from ≤ length text.now }
-    ensures { result ≡ from + bodyRun (drop from text.now) }
+    ensures { result ≡ from + body_run (drop from text.now) }
 {
     let mut i = next_quote(text, from);
     while i < text.len() {
@@ -162,7 +162,7 @@ fn field(text: &[u8], at: usize) -> Found
 // What stands behind a field.
 fn behind(text: &[u8], at: usize) -> Stop
     requires { at ≤ length text.now }
-    ensures { result ≡ stopOf at (drop at text.now) }
+    ensures { result ≡ stop_of at (drop at text.now) }
 {
     if text.len() <= at {
         return Stop::End(at);
@@ -231,7 +231,7 @@ fn pass(text: &[u8], begins: &mut [u32; 16], ends: &mut [u32; 16]) -> Verdict
 }
 
 fn comes_to(number: u8, count: usize, at: usize) -> Verdict
-    ensures { result ≡ comesTo number count at }
+    ensures { result ≡ comes_to number count at }
 {
     Verdict { number, count, at }
 }

@@ -1,6 +1,6 @@
 // What a line asks, or why it can't be taken: docs/REPLAY.md's operations, numbers and limits.
 ghost use Rattle.std.specs.Prelude.{◌≡◌, true};
-ghost use Rattle.replay.specs.Lines.{isKnown, takesEntry, isBeyond, reaches, is_taken, takes};
+ghost use Rattle.replay.specs.Lines.{is_known, takes_entry, is_beyond, reaches, is_taken, takes};
 
 // An operation and its numbers, of which x is b where that is an entry.
 #[derive(Drop)]
@@ -25,7 +25,7 @@ pub(crate) enum Verdict {
 }
 
 fn known(op: u64) -> bool
-    ensures { result ≡ isKnown op }
+    ensures { result ≡ is_known op }
 {
     ((0x01 <= op) & (op <= 0x0b))
         | ((0x10 <= op) & (op <= 0x1e))
@@ -41,7 +41,7 @@ fn known(op: u64) -> bool
 
 // Whether b is to be an entry.
 fn takes_entry(op: u64) -> bool
-    ensures { result ≡ takesEntry op }
+    ensures { result ≡ takes_entry op }
 {
     (op == 0x03)
         | (op == 0x06)
@@ -59,7 +59,7 @@ fn takes_entry(op: u64) -> bool
 // Slots above 4,200, a slot that isn't there, an entry above 32 bits, more numbers than the second has slots, a text above 40,000 bytes, a byte that isn't
 // there, a byte above 8 bits.
 fn beyond(entry: bool, op: u64, a: usize, b: usize, cap: usize, cap2: usize, size: usize) -> bool
-    ensures { result ≡ isBeyond entry op a b cap cap2 size }
+    ensures { result ≡ is_beyond entry op a b cap cap2 size }
 {
     (((op == 0x01) | (op == 0x04)) & (4200 < a))
         | ((op == 0x03) & (cap <= a))

@@ -12,85 +12,85 @@ use Rattle.slots.specs.Layout.{ring}
 use Rattle.table.specs.Tray.{nowhere}
 use Rattle.table.specs.Calls.{Call, insert, remove}
 use Rattle.table.specs.Does.{Outcome, refused, does}
-use Rattle.table.specs.Within.{doesWithin}
-use Rattle.table.proofs.Theorems.Within.{MovesMore, plain-below-12, twelve-when, then-twelve, twelve-beside, not-twelve, plain-beside, larger-same, larger-beside}
-use Rattle.table.proofs.Theorems.Room.{insert-enough, remove-enough}
+use Rattle.table.specs.Within.{does_within}
+use Rattle.table.proofs.Theorems.Within.{MovesMore, plain_below_12, twelve_when, then_twelve, twelve_beside, not_twelve, plain_beside, larger_same, larger_beside}
+use Rattle.table.proofs.Theorems.Room.{insert_enough, remove_enough}
 use Rattle.ring.specs.declared.Ring.{Ring}
 use Rattle.ring.specs.declared.Answer.{Answer}
 use Rattle.ring.specs.Seen.{tray, seen, Meets, MeetsWithin, says}
-use Rattle.ring.proofs.Once.{told-by, one, one-within}
+use Rattle.ring.proofs.Once.{told_by, one, one_within}
 use Rattle.ring.proofs.Ring as fn
 
 -- WHICHEVER CALL it is: v is the ring and s its slots, r is the result and z the slots then.
 module _ (a : ℕ) (call : Call) (v : Ring) (s z : List ℕ) (r : Answer) (m : MeetsWithin a call v s r z) where
-  pub within-12 : r.number ≡ 12 → MovesMore a ring call (tray v s)
-  within-12 = twelve-when a ring call (tray v s) (seen r z) m.row
+  pub within_12 : r.number ≡ 12 → MovesMore a ring call (tray v s)
+  within_12 = twelve_when a ring call (tray v s) (seen r z) m.row
 
   -- the answer is the refusal, with the state that was given, and no slot has changed
-  pub within-refused-12 : v.total.sum < 2 ^ 64 → MovesMore a ring call (tray v s) → (r ≡ says 12 0 0 v) × (z ≡ s)
-  within-refused-12 small more =
-      let is : seen r z ≡ refused (tray v s) nowhere 12 = then-twelve a ring call (tray v s) (seen r z) m.row more in
-      let beside = twelve-beside a ring call (tray v s) (seen r z) m.row (ap (λ (o : Outcome). o.number) is) in
-      told-by (refused (tray v s) nowhere 12) _ v.total.sum r (says 12 0 0 v) z s is refl (m.slot ∙ beside.0) refl (m.total ∙ beside.1 _ small) refl
+  pub within_refused_12 : v.total.sum < 2 ^ 64 → MovesMore a ring call (tray v s) → (r ≡ says 12 0 0 v) × (z ≡ s)
+  within_refused_12 small more =
+      let is : seen r z ≡ refused (tray v s) nowhere 12 = then_twelve a ring call (tray v s) (seen r z) m.row more in
+      let beside = twelve_beside a ring call (tray v s) (seen r z) m.row (ap (λ (o : Outcome). o.number) is) in
+      told_by (refused (tray v s) nowhere 12) _ v.total.sum r (says 12 0 0 v) z s is refl (m.slot ∙ beside.0) refl (m.total ∙ beside.1 _ small) refl
 
   -- else it meets the promise of the plain call
-  pub within-plain : (r.number ≡ 12 → ⊥) → Meets call v s r z
-  within-plain other =
-      let beside = plain-beside a ring call (tray v s) (seen r z) m.row other in
-      record { row = not-twelve a ring call (tray v s) (seen r z) m.row other; slot = m.slot ∙ beside.0; total = m.total ∙ beside.1 _ }
+  pub within_plain : (r.number ≡ 12 → ⊥) → Meets call v s r z
+  within_plain other =
+      let beside = plain_beside a ring call (tray v s) (seen r z) m.row other in
+      record { row = not_twelve a ring call (tray v s) (seen r z) m.row other; slot = m.slot ∙ beside.0; total = m.total ∙ beside.1 _ }
 
   -- and a larger allowance's
-  pub within-larger : (b : ℕ) → a ≤ b → (r.number ≡ 12 → ⊥) → MeetsWithin b call v s r z
-  within-larger b larger other =
-      let enough : (doesWithin a ring call (tray v s)).number ≡ 12 → ⊥ = λ e. other (ap (λ (o : Outcome). o.number) m.row ∙ e) in
-      let beside = larger-beside a b ring call (tray v s) larger enough in
+  pub within_larger : (b : ℕ) → a ≤ b → (r.number ≡ 12 → ⊥) → MeetsWithin b call v s r z
+  within_larger b larger other =
+      let enough : (does_within a ring call (tray v s)).number ≡ 12 → ⊥ = λ e. other (ap (λ (o : Outcome). o.number) m.row ∙ e) in
+      let beside = larger_beside a b ring call (tray v s) larger enough in
       record {
-        row = m.row ∙ sym (larger-same a b ring call (tray v s) larger enough);
+        row = m.row ∙ sym (larger_same a b ring call (tray v s) larger enough);
         slot = m.slot ∙ sym beside.0;
         total = m.total ∙ sym (beside.1 _);
       }
 
-  pub within-enough : doesWithin a ring call (tray v s) ≡ does ring call (tray v s) → r.number ≡ 12 → ⊥
-  within-enough plain e = omega (arith, plain-below-12 ring call (tray v s), ap (λ (o : Outcome). o.number) (m.row ∙ plain))
+  pub within_enough : does_within a ring call (tray v s) ≡ does ring call (tray v s) → r.number ≡ 12 → ⊥
+  within_enough plain e = omega (arith, plain_below_12 ring call (tray v s), ap (λ (o : Outcome). o.number) (m.row ∙ plain))
 
 -- INSERT. In what follows e are the arguments as they are at the return, so that `e.1.0` are the slots then.
 module _ (κs : Lfts 1) (v : Ring) (s : Bor (List ℕ)) (i x a : ℕ) (r : Answer) (e : AtExit fn.insert_within.ended κs)
     (learnt : fn.insert_within.Reads.Learnt κs (v, (s, (i, (x, (a, tt))))) r e) where
-  pub insert-within-12 : r.number ≡ 12 → MovesMore a ring (insert i x) (tray v s.now)
-  insert-within-12 = within-12 a _ v s.now _ r learnt
+  pub insert_within_12 : r.number ≡ 12 → MovesMore a ring (insert i x) (tray v s.now)
+  insert_within_12 = within_12 a _ v s.now _ r learnt
 
-  pub insert-within-then-12 : v.total.sum < 2 ^ 64 → MovesMore a ring (insert i x) (tray v s.now) → (r ≡ says 12 0 0 v) × (e.1.0.now ≡ s.now)
-  insert-within-then-12 = within-refused-12 a _ v s.now _ r learnt
+  pub insert_within_then_12 : v.total.sum < 2 ^ 64 → MovesMore a ring (insert i x) (tray v s.now) → (r ≡ says 12 0 0 v) × (e.1.0.now ≡ s.now)
+  insert_within_then_12 = within_refused_12 a _ v s.now _ r learnt
 
   -- what `insert` itself answers and leaves, r' and e'
-  pub insert-within-plain : (r' : Answer) (e' : AtExit fn.insert.ended κs) → fn.insert.Reads.Learnt κs (v, (s, (i, (x, tt)))) r' e' → (r.number ≡ 12 → ⊥)
+  pub insert_within_plain : (r' : Answer) (e' : AtExit fn.insert.ended κs) → fn.insert.Reads.Learnt κs (v, (s, (i, (x, tt)))) r' e' → (r.number ≡ 12 → ⊥)
       → (r ≡ r') × (e.1.0.now ≡ e'.1.0.now)
-  insert-within-plain r' e' plain other = one r r' _ _ (within-plain a _ v s.now _ r learnt other) plain
+  insert_within_plain r' e' plain other = one r r' _ _ (within_plain a _ v s.now _ r learnt other) plain
 
   -- what it answers and leaves with a larger allowance
-  pub insert-within-larger : (b : ℕ) (r' : Answer) (e' : AtExit fn.insert_within.ended κs) → fn.insert_within.Reads.Learnt κs (v, (s, (i, (x, (b, tt))))) r' e' → a ≤ b
+  pub insert_within_larger : (b : ℕ) (r' : Answer) (e' : AtExit fn.insert_within.ended κs) → fn.insert_within.Reads.Learnt κs (v, (s, (i, (x, (b, tt))))) r' e' → a ≤ b
       → (r.number ≡ 12 → ⊥) → (r ≡ r') × (e.1.0.now ≡ e'.1.0.now)
-  insert-within-larger b r' e' wide larger other = one-within r r' _ _ (within-larger a _ v s.now _ r learnt b larger other) wide
+  insert_within_larger b r' e' wide larger other = one_within r r' _ _ (within_larger a _ v s.now _ r learnt b larger other) wide
 
-  pub insert-within-enough : (length s.now - 1) / 2 ≤ a → r.number ≡ 12 → ⊥
-  insert-within-enough enough = within-enough a _ v s.now _ r learnt (insert-enough a (tray v s.now) i enough x)
+  pub insert_within_enough : (length s.now - 1) / 2 ≤ a → r.number ≡ 12 → ⊥
+  insert_within_enough enough = within_enough a _ v s.now _ r learnt (insert_enough a (tray v s.now) i enough x)
 
 -- REMOVE, in the same words.
 module _ (κs : Lfts 1) (v : Ring) (s : Bor (List ℕ)) (i a : ℕ) (r : Answer) (e : AtExit fn.remove_within.ended κs)
     (learnt : fn.remove_within.Reads.Learnt κs (v, (s, (i, (a, tt)))) r e) where
-  pub remove-within-12 : r.number ≡ 12 → MovesMore a ring (remove i) (tray v s.now)
-  remove-within-12 = within-12 a _ v s.now _ r learnt
+  pub remove_within_12 : r.number ≡ 12 → MovesMore a ring (remove i) (tray v s.now)
+  remove_within_12 = within_12 a _ v s.now _ r learnt
 
-  pub remove-within-then-12 : v.total.sum < 2 ^ 64 → MovesMore a ring (remove i) (tray v s.now) → (r ≡ says 12 0 0 v) × (e.1.0.now ≡ s.now)
-  remove-within-then-12 = within-refused-12 a _ v s.now _ r learnt
+  pub remove_within_then_12 : v.total.sum < 2 ^ 64 → MovesMore a ring (remove i) (tray v s.now) → (r ≡ says 12 0 0 v) × (e.1.0.now ≡ s.now)
+  remove_within_then_12 = within_refused_12 a _ v s.now _ r learnt
 
-  pub remove-within-plain : (r' : Answer) (e' : AtExit fn.remove.ended κs) → fn.remove.Reads.Learnt κs (v, (s, (i, tt))) r' e' → (r.number ≡ 12 → ⊥)
+  pub remove_within_plain : (r' : Answer) (e' : AtExit fn.remove.ended κs) → fn.remove.Reads.Learnt κs (v, (s, (i, tt))) r' e' → (r.number ≡ 12 → ⊥)
       → (r ≡ r') × (e.1.0.now ≡ e'.1.0.now)
-  remove-within-plain r' e' plain other = one r r' _ _ (within-plain a _ v s.now _ r learnt other) plain
+  remove_within_plain r' e' plain other = one r r' _ _ (within_plain a _ v s.now _ r learnt other) plain
 
-  pub remove-within-larger : (b : ℕ) (r' : Answer) (e' : AtExit fn.remove_within.ended κs) → fn.remove_within.Reads.Learnt κs (v, (s, (i, (b, tt)))) r' e' → a ≤ b
+  pub remove_within_larger : (b : ℕ) (r' : Answer) (e' : AtExit fn.remove_within.ended κs) → fn.remove_within.Reads.Learnt κs (v, (s, (i, (b, tt)))) r' e' → a ≤ b
       → (r.number ≡ 12 → ⊥) → (r ≡ r') × (e.1.0.now ≡ e'.1.0.now)
-  remove-within-larger b r' e' wide larger other = one-within r r' _ _ (within-larger a _ v s.now _ r learnt b larger other) wide
+  remove_within_larger b r' e' wide larger other = one_within r r' _ _ (within_larger a _ v s.now _ r learnt b larger other) wide
 
-  pub remove-within-enough : (length s.now - 1) / 2 ≤ a → r.number ≡ 12 → ⊥
-  remove-within-enough enough = within-enough a _ v s.now _ r learnt (remove-enough a (tray v s.now) i enough)
+  pub remove_within_enough : (length s.now - 1) / 2 ≤ a → r.number ≡ 12 → ⊥
+  remove_within_enough enough = within_enough a _ v s.now _ r learnt (remove_enough a (tray v s.now) i enough)

@@ -12,32 +12,32 @@ use Rattle.slots.specs.Layout.{ring, place}
 use Rattle.slots.specs.Moves.{moved, inserted, removed}
 use Rattle.table.specs.Calls.{Call, insert, remove, has}
 use Rattle.table.proofs.Theorems.Best.{Least, best}
-use Rattle.table.proofs.Theorems.BestLayout.{RingOrder, best-laid}
+use Rattle.table.proofs.Theorems.BestLayout.{RingOrder, best_laid}
 use Rattle.ring.specs.declared.Ring.{Ring}
 use Rattle.ring.specs.declared.Answer.{Answer}
 use Rattle.ring.specs.Seen.{tray, seen, Meets}
 use Rattle.ring.proofs.Ring as fn
 
 -- whichever call of a ring it was
-pub call-least : (call : Call) (v : Ring) (s z : List ℕ) (a : Answer) → Meets call v s a z → has call ring ≡ true → a.number ≡ 0
+pub call_least : (call : Call) (v : Ring) (s z : List ℕ) (a : Answer) → Meets call v s a z → has call ring ≡ true → a.number ≡ 0
     → Least call (tray v s) (seen a z)
-call-least call v s z a meets of done = best call (tray v s) (seen a z) meets.row of done
+call_least call v s z a meets of done = best call (tray v s) (seen a z) meets.row of done
 
 -- In what follows v is the ring and s its slots, r is the result, and e the arguments as they are at the return, so that `e.1.0` are the slots then.
 module _ (κs : Lfts 1) (v : Ring) (s : Bor (List ℕ)) (i x : ℕ) (r : Answer) (e : AtExit fn.insert.ended κs)
     (learnt : fn.insert.Reads.Learnt κs (v, (s, (i, (x, tt)))) r e) (done : r.number ≡ 0) where
-  pub insert-least : Least (insert i x) (tray v s.now) (seen r e.1.0.now)
-  insert-least = call-least _ _ _ _ _ learnt refl done
+  pub insert_least : Least (insert i x) (tray v s.now) (seen r e.1.0.now)
+  insert_least = call_least _ _ _ _ _ learnt refl done
 
-  pub insert-laid : (lay : ℕ → ℕ) → RingOrder (length s.now) r.ring.len lay
+  pub insert_laid : (lay : ℕ → ℕ) → RingOrder (length s.now) r.ring.len lay
       → r.moves ≤ moved (place ring (length s.now) v.head) lay (inserted i) v.len
-  insert-laid = best-laid _ _ _ learnt.row refl done
+  insert_laid = best_laid _ _ _ learnt.row refl done
 
 module _ (κs : Lfts 1) (v : Ring) (s : Bor (List ℕ)) (i : ℕ) (r : Answer) (e : AtExit fn.remove.ended κs)
     (learnt : fn.remove.Reads.Learnt κs (v, (s, (i, tt))) r e) (done : r.number ≡ 0) where
-  pub remove-least : Least (remove i) (tray v s.now) (seen r e.1.0.now)
-  remove-least = call-least _ _ _ _ _ learnt refl done
+  pub remove_least : Least (remove i) (tray v s.now) (seen r e.1.0.now)
+  remove_least = call_least _ _ _ _ _ learnt refl done
 
-  pub remove-laid : (lay : ℕ → ℕ) → RingOrder (length s.now) r.ring.len lay
+  pub remove_laid : (lay : ℕ → ℕ) → RingOrder (length s.now) r.ring.len lay
       → r.moves ≤ moved (place ring (length s.now) v.head) lay (removed i) v.len
-  remove-laid = best-laid _ _ _ learnt.row refl done
+  remove_laid = best_laid _ _ _ learnt.row refl done

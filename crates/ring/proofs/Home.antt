@@ -10,7 +10,7 @@ use denote.Triple.Clauses.{AtExit}
 use Rattle.slots.specs.Layout.{ring}
 use Rattle.table.specs.Tray.{Tray}
 use Rattle.table.specs.Calls.{Call, push}
-use Rattle.table.proofs.Theorems.Home.{done-home}
+use Rattle.table.proofs.Theorems.Home.{done_home}
 use Rattle.table.proofs.Theorems.Stack.{stacked, Lies, lies}
 use Rattle.ring.specs.declared.Ring.{Ring}
 use Rattle.ring.specs.declared.Answer.{Answer}
@@ -19,34 +19,34 @@ use Rattle.ring.proofs.Upstream.{Valid}
 use Rattle.ring.proofs.Ring as fn
 
 -- whichever call it was
-pub call-home : (call : Call) (v : Ring) (s z : List ℕ) (a : Answer) → Meets call v s a z → a.number ≡ 0 → a.ring.len ≡ 0 → a.ring.head ≡ 0
-call-home call v s z a meets = done-home ring call (tray v s) _ meets.row
+pub call_home : (call : Call) (v : Ring) (s z : List ℕ) (a : Answer) → Meets call v s a z → a.number ≡ 0 → a.ring.len ≡ 0 → a.ring.head ≡ 0
+call_home call v s z a meets = done_home ring call (tray v s) _ meets.row
 
 -- In what follows v is the ring and s its slots, r is the result, and e the arguments as they are at the return. Those that can take the last entry out:
 module _ (κs : Lfts 1) (v : Ring) (s : Bor (List ℕ)) (r : Answer) where
-  pub pop-back-home : (e : AtExit fn.pop_back.ended κs) → fn.pop_back.Reads.Learnt κs (v, (s, tt)) r e → r.number ≡ 0
+  pub pop_back_home : (e : AtExit fn.pop_back.ended κs) → fn.pop_back.Reads.Learnt κs (v, (s, tt)) r e → r.number ≡ 0
       → r.ring.len ≡ 0 → r.ring.head ≡ 0
-  pop-back-home e learnt = call-home _ _ _ _ _ learnt
+  pop_back_home e learnt = call_home _ _ _ _ _ learnt
 
-  pub pop-front-home : (e : AtExit fn.pop_front.ended κs) → fn.pop_front.Reads.Learnt κs (v, (s, tt)) r e → r.number ≡ 0
+  pub pop_front_home : (e : AtExit fn.pop_front.ended κs) → fn.pop_front.Reads.Learnt κs (v, (s, tt)) r e → r.number ≡ 0
       → r.ring.len ≡ 0 → r.ring.head ≡ 0
-  pop-front-home e learnt = call-home _ _ _ _ _ learnt
+  pop_front_home e learnt = call_home _ _ _ _ _ learnt
 
-  pub remove-home : (i : ℕ) (e : AtExit fn.remove.ended κs) → fn.remove.Reads.Learnt κs (v, (s, (i, tt))) r e → r.number ≡ 0
+  pub remove_home : (i : ℕ) (e : AtExit fn.remove.ended κs) → fn.remove.Reads.Learnt κs (v, (s, (i, tt))) r e → r.number ≡ 0
       → r.ring.len ≡ 0 → r.ring.head ≡ 0
-  remove-home i e learnt = call-home _ _ _ _ _ learnt
+  remove_home i e learnt = call_home _ _ _ _ _ learnt
 
-  pub truncate-home : (k : ℕ) (e : AtExit fn.truncate.ended κs) → fn.truncate.Reads.Learnt κs (v, (s, (k, tt))) r e → r.number ≡ 0
+  pub truncate_home : (k : ℕ) (e : AtExit fn.truncate.ended κs) → fn.truncate.Reads.Learnt κs (v, (s, (k, tt))) r e → r.number ≡ 0
       → r.ring.len ≡ 0 → r.ring.head ≡ 0
-  truncate-home k e learnt = call-home _ _ _ _ _ learnt
+  truncate_home k e learnt = call_home _ _ _ _ _ learnt
 
-  pub resize-home : (k x : ℕ) (e : AtExit fn.resize.ended κs) → fn.resize.Reads.Learnt κs (v, (s, (k, (x, tt)))) r e → r.number ≡ 0
+  pub resize_home : (k x : ℕ) (e : AtExit fn.resize.ended κs) → fn.resize.Reads.Learnt κs (v, (s, (k, (x, tt)))) r e → r.number ≡ 0
       → r.ring.len ≡ 0 → r.ring.head ≡ 0
-  resize-home k x e learnt = call-home _ _ _ _ _ learnt
+  resize_home k x e learnt = call_home _ _ _ _ _ learnt
 
-  pub clear-home : (e : AtExit fn.clear.ended κs) → fn.clear.Reads.Learnt κs (v, (s, tt)) r e → r.number ≡ 0
+  pub clear_home : (e : AtExit fn.clear.ended κs) → fn.clear.Reads.Learnt κs (v, (s, tt)) r e → r.number ≡ 0
       → r.ring.len ≡ 0 → r.ring.head ≡ 0
-  clear-home e learnt = call-home _ _ _ _ _ learnt
+  clear_home e learnt = call_home _ _ _ _ _ learnt
 
 -- THE STACK: a ring and its slots before, the entries that `push_back` put on it one after another, and the ring and its slots after.
 pub data Pushed : (v : Ring) (slots xs : List ℕ) (v' : Ring) (slots' : List ℕ) → Type 0 where
@@ -54,19 +54,19 @@ pub data Pushed : (v : Ring) (slots xs : List ℕ) (v' : Ring) (slots' : List �
   pushed : {v v' : Ring} {s s₁ s' xs : List ℕ} {x : ℕ} {a : Answer} → Meets (push x) v s a s₁ → Pushed a.ring s₁ xs v' s' → Pushed v s (x ∷ xs) v' s'
 
 -- one more, from the function's own contract: `e.1.0` are the slots as it leaves them
-pub push-back-pushed : (κs : Lfts 1) (v v' : Ring) (s : Bor (List ℕ)) (x : ℕ) (r : Answer) (e : AtExit fn.push_back.ended κs) (xs s' : List ℕ)
+pub push_back_pushed : (κs : Lfts 1) (v v' : Ring) (s : Bor (List ℕ)) (x : ℕ) (r : Answer) (e : AtExit fn.push_back.ended κs) (xs s' : List ℕ)
     → fn.push_back.Reads.Learnt κs (v, (s, (x, tt))) r e → Pushed r.ring e.1.0.now xs v' s' → Pushed v s.now (x ∷ xs) v' s'
-push-back-pushed κs v v' s x r e xs s' learnt rest = pushed learnt rest
+push_back_pushed κs v v' s x r e xs s' learnt rest = pushed learnt rest
 
-pushed-is : {v v' : Ring} {s s' xs : List ℕ} → Pushed v s xs v' s' → tray v' s' ≡ stacked (tray v s) xs
-pushed-is begun = refl
-pushed-is (pushed {xs = xs} meets rest) = pushed-is rest ∙ ap (λ (t : Tray). stacked t xs) (ap (λ o. o.tray) meets.row)
+pushed_is : {v v' : Ring} {s s' xs : List ℕ} → Pushed v s xs v' s' → tray v' s' ≡ stacked (tray v s) xs
+pushed_is begun = refl
+pushed_is (pushed {xs = xs} meets rest) = pushed_is rest ∙ ap (λ (t : Tray). stacked t xs) (ap (λ o. o.tray) meets.row)
 
-pub stack-lies : (v v' : Ring) (s : Bor (List ℕ)) (xs s' : List ℕ) → Valid v s → v.len ≡ 0 → length xs ≤ length s.now → Pushed v s.now xs v' s'
+pub stack_lies : (v v' : Ring) (s : Bor (List ℕ)) (xs s' : List ℕ) → Valid v s → v.len ≡ 0 → length xs ≤ length s.now → Pushed v s.now xs v' s'
     → Lies (tray v s.now) xs (tray v' s')
-stack-lies v v' s xs s' ok none room p = subst⁻¹ (λ (t : Tray). Lies (tray v s.now) xs t) (pushed-is p) (lies (tray v s.now) ok none xs room)
+stack_lies v v' s xs s' ok none room p = subst⁻¹ (λ (t : Tray). Lies (tray v s.now) xs t) (pushed_is p) (lies (tray v s.now) ok none xs room)
 
 -- in a word: entry j stands in slot j
-pub stack-slots : (v v' : Ring) (s : Bor (List ℕ)) (xs s' : List ℕ) → Valid v s → v.len ≡ 0 → length xs ≤ length s.now → Pushed v s.now xs v' s'
+pub stack_slots : (v v' : Ring) (s : Bor (List ℕ)) (xs s' : List ℕ) → Valid v s → v.len ≡ 0 → length xs ≤ length s.now → Pushed v s.now xs v' s'
     → (j : ℕ) → j < length xs → get_or s' j 0 ≡ get_or xs j 0
-stack-slots v v' s xs s' ok none room p = (stack-lies v v' s xs s' ok none room p).slot
+stack_slots v v' s xs s' ok none room p = (stack_lies v v' s xs s' ok none room p).slot

@@ -5,84 +5,84 @@ use contract.Lifetimes.{Lfts}
 use denote.Triple.Clauses.{AtExit}
 use borrow.Fn.World.{ArgsD, ResD}
 use Rattle.slots.specs.Layout.{ring}
-use Rattle.table.specs.Calls.{new, withCapacity, look, len, read, reserve}
-use Rattle.table.specs.Calls.{write, push, pushFront, pop, popFront, insert, remove, truncate, resize, clear}
-use Rattle.table.specs.PromiseWithin.{promiseWithin}
+use Rattle.table.specs.Calls.{new, with_capacity, look, len, read, reserve}
+use Rattle.table.specs.Calls.{write, push, push_front, pop, pop_front, insert, remove, truncate, resize, clear}
+use Rattle.table.specs.PromiseWithin.{promise_within}
 use Rattle.table.specs.World.{World, called, make, on, Ours}
-use Rattle.table.proofs.Laws.Named.{Is, ours-make, ours-on}
-use Rattle.table.proofs.Laws.Within.{ours-within}
+use Rattle.table.proofs.Laws.Named.{Is, ours_make, ours_on}
+use Rattle.table.proofs.Laws.Within.{ours_within}
 use Rattle.ring.specs.Seen.{tray, seen}
 use Rattle.ring.proofs.Ring as fn
 
 -- In what follows a are the arguments, r is the result, and e the arguments as they are at the return.
 module _ (w : World) (κs : Lfts 1) where
-  pub new-ours : (a : ArgsD fn.new.signature κs) (r : ResD fn.new.signature κs) (e : AtExit fn.new.ended κs)
+  pub new_ours : (a : ArgsD fn.new.signature κs) (r : ResD fn.new.signature κs) (e : AtExit fn.new.ended κs)
       → fn.new.Reads.Learnt κs a r e → Ours w (make ring new a.0.now (seen r a.0.now))
-  new-ours a r e learnt = ours-make w _ _ _ _ refl learnt.row
+  new_ours a r e learnt = ours_make w _ _ _ _ refl learnt.row
 
-  pub with-capacity-ours : (a : ArgsD fn.with_capacity.signature κs) (r : ResD fn.with_capacity.signature κs) (e : AtExit fn.with_capacity.ended κs)
-      → fn.with_capacity.Reads.Learnt κs a r e → Ours w (make ring (withCapacity a.1.0) a.0.now (seen r a.0.now))
-  with-capacity-ours a r e learnt = ours-make w _ _ _ _ refl learnt.row
+  pub with_capacity_ours : (a : ArgsD fn.with_capacity.signature κs) (r : ResD fn.with_capacity.signature κs) (e : AtExit fn.with_capacity.ended κs)
+      → fn.with_capacity.Reads.Learnt κs a r e → Ours w (make ring (with_capacity a.1.0) a.0.now (seen r a.0.now))
+  with_capacity_ours a r e learnt = ours_make w _ _ _ _ refl learnt.row
 
 module _ (w : World) (i : ℕ) (κs : Lfts 1) where
   pub len-ours : (a : ArgsD fn.len.signature κs) (r : ResD fn.len.signature κs) (e : AtExit fn.len.ended κs)
       → Is w i ring (tray a.0 a.1.0.now) → fn.len.Reads.Learnt κs a r e → Ours w (on i (look len) (seen r a.1.0.now))
-  len-ours a r e is learnt = ours-on w i _ _ _ _ refl is learnt.row
+  len-ours a r e is learnt = ours_on w i _ _ _ _ refl is learnt.row
 
-  pub read-ours : (a : ArgsD fn.read.signature κs) (r : ResD fn.read.signature κs) (e : AtExit fn.read.ended κs)
+  pub read_ours : (a : ArgsD fn.read.signature κs) (r : ResD fn.read.signature κs) (e : AtExit fn.read.ended κs)
       → Is w i ring (tray a.0 a.1.0.now) → fn.read.Reads.Learnt κs a r e → Ours w (on i (look (read a.1.1.0)) (seen r a.1.0.now))
-  read-ours a r e is learnt = ours-on w i _ _ _ _ refl is learnt.row
+  read_ours a r e is learnt = ours_on w i _ _ _ _ refl is learnt.row
 
-  pub reserve-ours : (a : ArgsD fn.reserve.signature κs) (r : ResD fn.reserve.signature κs) (e : AtExit fn.reserve.ended κs)
+  pub reserve_ours : (a : ArgsD fn.reserve.signature κs) (r : ResD fn.reserve.signature κs) (e : AtExit fn.reserve.ended κs)
       → Is w i ring (tray a.0 a.1.0.now) → fn.reserve.Reads.Learnt κs a r e → Ours w (on i (look (reserve a.1.1.0)) (seen r a.1.0.now))
-  reserve-ours a r e is learnt = ours-on w i _ _ _ _ refl is learnt.row
+  reserve_ours a r e is learnt = ours_on w i _ _ _ _ refl is learnt.row
 
-  pub write-ours : (a : ArgsD fn.write.signature κs) (r : ResD fn.write.signature κs) (e : AtExit fn.write.ended κs)
+  pub write_ours : (a : ArgsD fn.write.signature κs) (r : ResD fn.write.signature κs) (e : AtExit fn.write.ended κs)
       → Is w i ring (tray a.0 a.1.0.now) → fn.write.Reads.Learnt κs a r e → Ours w (on i (write a.1.1.0 a.1.1.1.0) (seen r e.1.0.now))
-  write-ours a r e is learnt = ours-on w i _ _ _ _ refl is learnt.row
+  write_ours a r e is learnt = ours_on w i _ _ _ _ refl is learnt.row
 
-  pub push-back-ours : (a : ArgsD fn.push_back.signature κs) (r : ResD fn.push_back.signature κs) (e : AtExit fn.push_back.ended κs)
+  pub push_back_ours : (a : ArgsD fn.push_back.signature κs) (r : ResD fn.push_back.signature κs) (e : AtExit fn.push_back.ended κs)
       → Is w i ring (tray a.0 a.1.0.now) → fn.push_back.Reads.Learnt κs a r e → Ours w (on i (push a.1.1.0) (seen r e.1.0.now))
-  push-back-ours a r e is learnt = ours-on w i _ _ _ _ refl is learnt.row
+  push_back_ours a r e is learnt = ours_on w i _ _ _ _ refl is learnt.row
 
-  pub push-front-ours : (a : ArgsD fn.push_front.signature κs) (r : ResD fn.push_front.signature κs) (e : AtExit fn.push_front.ended κs)
-      → Is w i ring (tray a.0 a.1.0.now) → fn.push_front.Reads.Learnt κs a r e → Ours w (on i (pushFront a.1.1.0) (seen r e.1.0.now))
-  push-front-ours a r e is learnt = ours-on w i _ _ _ _ refl is learnt.row
+  pub push_front_ours : (a : ArgsD fn.push_front.signature κs) (r : ResD fn.push_front.signature κs) (e : AtExit fn.push_front.ended κs)
+      → Is w i ring (tray a.0 a.1.0.now) → fn.push_front.Reads.Learnt κs a r e → Ours w (on i (push_front a.1.1.0) (seen r e.1.0.now))
+  push_front_ours a r e is learnt = ours_on w i _ _ _ _ refl is learnt.row
 
-  pub pop-back-ours : (a : ArgsD fn.pop_back.signature κs) (r : ResD fn.pop_back.signature κs) (e : AtExit fn.pop_back.ended κs)
+  pub pop_back_ours : (a : ArgsD fn.pop_back.signature κs) (r : ResD fn.pop_back.signature κs) (e : AtExit fn.pop_back.ended κs)
       → Is w i ring (tray a.0 a.1.0.now) → fn.pop_back.Reads.Learnt κs a r e → Ours w (on i pop (seen r e.1.0.now))
-  pop-back-ours a r e is learnt = ours-on w i _ _ _ _ refl is learnt.row
+  pop_back_ours a r e is learnt = ours_on w i _ _ _ _ refl is learnt.row
 
-  pub pop-front-ours : (a : ArgsD fn.pop_front.signature κs) (r : ResD fn.pop_front.signature κs) (e : AtExit fn.pop_front.ended κs)
-      → Is w i ring (tray a.0 a.1.0.now) → fn.pop_front.Reads.Learnt κs a r e → Ours w (on i popFront (seen r e.1.0.now))
-  pop-front-ours a r e is learnt = ours-on w i _ _ _ _ refl is learnt.row
+  pub pop_front_ours : (a : ArgsD fn.pop_front.signature κs) (r : ResD fn.pop_front.signature κs) (e : AtExit fn.pop_front.ended κs)
+      → Is w i ring (tray a.0 a.1.0.now) → fn.pop_front.Reads.Learnt κs a r e → Ours w (on i pop_front (seen r e.1.0.now))
+  pop_front_ours a r e is learnt = ours_on w i _ _ _ _ refl is learnt.row
 
-  pub insert-ours : (a : ArgsD fn.insert.signature κs) (r : ResD fn.insert.signature κs) (e : AtExit fn.insert.ended κs)
+  pub insert_ours : (a : ArgsD fn.insert.signature κs) (r : ResD fn.insert.signature κs) (e : AtExit fn.insert.ended κs)
       → Is w i ring (tray a.0 a.1.0.now) → fn.insert.Reads.Learnt κs a r e → Ours w (on i (insert a.1.1.0 a.1.1.1.0) (seen r e.1.0.now))
-  insert-ours a r e is learnt = ours-on w i _ _ _ _ refl is learnt.row
+  insert_ours a r e is learnt = ours_on w i _ _ _ _ refl is learnt.row
 
-  pub remove-ours : (a : ArgsD fn.remove.signature κs) (r : ResD fn.remove.signature κs) (e : AtExit fn.remove.ended κs)
+  pub remove_ours : (a : ArgsD fn.remove.signature κs) (r : ResD fn.remove.signature κs) (e : AtExit fn.remove.ended κs)
       → Is w i ring (tray a.0 a.1.0.now) → fn.remove.Reads.Learnt κs a r e → Ours w (on i (remove a.1.1.0) (seen r e.1.0.now))
-  remove-ours a r e is learnt = ours-on w i _ _ _ _ refl is learnt.row
+  remove_ours a r e is learnt = ours_on w i _ _ _ _ refl is learnt.row
 
-  pub insert-within-ours : (a : ArgsD fn.insert_within.signature κs) (r : ResD fn.insert_within.signature κs) (e : AtExit fn.insert_within.ended κs)
+  pub insert_within_ours : (a : ArgsD fn.insert_within.signature κs) (r : ResD fn.insert_within.signature κs) (e : AtExit fn.insert_within.ended κs)
       → Is w i ring (tray a.0 a.1.0.now) → fn.insert_within.Reads.Learnt κs a r e
-      → Ours w (called i (promiseWithin a.1.1.1.1.0 (insert a.1.1.0 a.1.1.1.0)) (seen r e.1.0.now))
-  insert-within-ours a r e is learnt = ours-within w i _ _ _ _ _ refl is learnt.row
+      → Ours w (called i (promise_within a.1.1.1.1.0 (insert a.1.1.0 a.1.1.1.0)) (seen r e.1.0.now))
+  insert_within_ours a r e is learnt = ours_within w i _ _ _ _ _ refl is learnt.row
 
-  pub remove-within-ours : (a : ArgsD fn.remove_within.signature κs) (r : ResD fn.remove_within.signature κs) (e : AtExit fn.remove_within.ended κs)
+  pub remove_within_ours : (a : ArgsD fn.remove_within.signature κs) (r : ResD fn.remove_within.signature κs) (e : AtExit fn.remove_within.ended κs)
       → Is w i ring (tray a.0 a.1.0.now) → fn.remove_within.Reads.Learnt κs a r e
-      → Ours w (called i (promiseWithin a.1.1.1.0 (remove a.1.1.0)) (seen r e.1.0.now))
-  remove-within-ours a r e is learnt = ours-within w i _ _ _ _ _ refl is learnt.row
+      → Ours w (called i (promise_within a.1.1.1.0 (remove a.1.1.0)) (seen r e.1.0.now))
+  remove_within_ours a r e is learnt = ours_within w i _ _ _ _ _ refl is learnt.row
 
-  pub truncate-ours : (a : ArgsD fn.truncate.signature κs) (r : ResD fn.truncate.signature κs) (e : AtExit fn.truncate.ended κs)
+  pub truncate_ours : (a : ArgsD fn.truncate.signature κs) (r : ResD fn.truncate.signature κs) (e : AtExit fn.truncate.ended κs)
       → Is w i ring (tray a.0 a.1.0.now) → fn.truncate.Reads.Learnt κs a r e → Ours w (on i (truncate a.1.1.0) (seen r e.1.0.now))
-  truncate-ours a r e is learnt = ours-on w i _ _ _ _ refl is learnt.row
+  truncate_ours a r e is learnt = ours_on w i _ _ _ _ refl is learnt.row
 
-  pub resize-ours : (a : ArgsD fn.resize.signature κs) (r : ResD fn.resize.signature κs) (e : AtExit fn.resize.ended κs)
+  pub resize_ours : (a : ArgsD fn.resize.signature κs) (r : ResD fn.resize.signature κs) (e : AtExit fn.resize.ended κs)
       → Is w i ring (tray a.0 a.1.0.now) → fn.resize.Reads.Learnt κs a r e → Ours w (on i (resize a.1.1.0 a.1.1.1.0) (seen r e.1.0.now))
-  resize-ours a r e is learnt = ours-on w i _ _ _ _ refl is learnt.row
+  resize_ours a r e is learnt = ours_on w i _ _ _ _ refl is learnt.row
 
-  pub clear-ours : (a : ArgsD fn.clear.signature κs) (r : ResD fn.clear.signature κs) (e : AtExit fn.clear.ended κs)
+  pub clear_ours : (a : ArgsD fn.clear.signature κs) (r : ResD fn.clear.signature κs) (e : AtExit fn.clear.ended κs)
       → Is w i ring (tray a.0 a.1.0.now) → fn.clear.Reads.Learnt κs a r e → Ours w (on i clear (seen r e.1.0.now))
-  clear-ours a r e is learnt = ours-on w i _ _ _ _ refl is learnt.row
+  clear_ours a r e is learnt = ours_on w i _ _ _ _ refl is learnt.row

@@ -8,20 +8,20 @@ use Rattle.slots.specs.Total.{total}
 use Rattle.table.specs.Tray.{list}
 use Rattle.table.specs.Calls.{Call, Making}
 use Rattle.table.specs.Ledger.{flow}
-use Rattle.table.proofs.Theorems.Totals.{Changes, by-ledger}
-use Rattle.table.proofs.Theorems.Sums.{call-sum, made-sum}
+use Rattle.table.proofs.Theorems.Totals.{Changes, by_ledger}
+use Rattle.table.proofs.Theorems.Sums.{call_sum, made_sum}
 use Rattle.ring.specs.declared.Ring.{Ring}
 use Rattle.ring.specs.declared.Answer.{Answer}
 use Rattle.ring.specs.Seen.{tray, seen, Meets, Makes}
 
 module _ (call : Call) (r : Ring) (before after : List ℕ) (a : Answer) (m : Meets call r before a after) where
   pub changes : a.number ≡ 0 → Changes (flow call a.value (list ring (tray r before))) r.total.sum a.ring.total.sum
-  changes zero = record { is = m.total ∙ (by-ledger ring call _ (seen a after) r.total.sum m.row zero).is }
+  changes zero = record { is = m.total ∙ (by_ledger ring call _ (seen a after) r.total.sum m.row zero).is }
 
-  pub stays-right : r.total.sum ≡ total (list ring (tray r before)) → total (list ring (tray a.ring after)) < 2 ^ 64
+  pub stays_right : r.total.sum ≡ total (list ring (tray r before)) → total (list ring (tray a.ring after)) < 2 ^ 64
       → a.ring.total.sum ≡ total (list ring (tray a.ring after))
-  stays-right = call-sum ring call _ (seen a after) _ _ m.row m.total
+  stays_right = call_sum ring call _ (seen a after) _ _ m.row m.total
 
-pub starts-right : (making : Making) (before after : List ℕ) (a : Answer) → Makes making before a after → total (list ring (tray a.ring after)) < 2 ^ 64
+pub starts_right : (making : Making) (before after : List ℕ) (a : Answer) → Makes making before a after → total (list ring (tray a.ring after)) < 2 ^ 64
     → a.ring.total.sum ≡ total (list ring (tray a.ring after))
-starts-right making before after a m = made-sum ring making before (seen a after) _ m.row m.total
+starts_right making before after a m = made_sum ring making before (seen a after) _ m.row m.total

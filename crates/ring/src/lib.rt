@@ -2,12 +2,12 @@
 mod within; // within.rt: the calls with an allowance
 
 ghost use Rattle.std.specs.Prelude.{◌≡◌};
-ghost use Rattle.table.specs.Calls.{new, withCapacity, look, len, read, reserve};
-ghost use Rattle.table.specs.Calls.{write, push, pushFront, pop, popFront, insert, remove, truncate, resize, clear};
+ghost use Rattle.table.specs.Calls.{new, with_capacity, look, len, read, reserve};
+ghost use Rattle.table.specs.Calls.{write, push, push_front, pop, pop_front, insert, remove, truncate, resize, clear};
 ghost use Rattle.slots.specs.Layout.{ring};
 ghost use Rattle.slots.specs.Total.{changed};
 ghost use Rattle.runs.specs.Width.{summing};
-ghost use Rattle.table.specs.Does.{headAfter};
+ghost use Rattle.table.specs.Does.{head_after};
 ghost use Rattle.ring.specs.Seen.{Meets, Makes, state, says, lit};
 
 use runs::total;
@@ -43,7 +43,7 @@ impl Ring {
     }
 
     pub fn with_capacity(slots: &[u32], k: usize) -> Answer
-        ensures { Makes (withCapacity k) slots.now result slots.now }
+        ensures { Makes (with_capacity k) slots.now result slots.now }
     {
         if slots::MOST < slots.len() {
             return refused(1, state(0, 0, total::none()));
@@ -135,7 +135,7 @@ impl Ring {
     }
 
     pub fn push_front(self, slots: &mut [u32], x: u32) -> Answer
-        ensures { Meets (pushFront x) self slots.old result slots.new }
+        ensures { Meets (push_front x) self slots.old result slots.new }
     {
         let cap = slots.len();
         let head = self.head;
@@ -170,7 +170,7 @@ impl Ring {
     }
 
     pub fn pop_front(self, slots: &mut [u32]) -> Answer
-        ensures { Meets popFront self slots.old result slots.new }
+        ensures { Meets pop_front self slots.old result slots.new }
     {
         let cap = slots.len();
         let head = self.head;
@@ -314,7 +314,7 @@ pub fn state(head: usize, len: usize, total: Total) -> Ring
 
 // The state of a ring that entries were taken out of: where none is left it starts at slot 0.
 pub fn left(head: usize, len: usize, total: Total) -> Ring
-    ensures { result ≡ state (headAfter ring len head) len total }
+    ensures { result ≡ state (head_after ring len head) len total }
 {
     if len == 0 {
         return state(0, 0, total);
@@ -379,14 +379,14 @@ fn entered(x: u32, moves: usize, head: usize, len: usize, total: Total) -> Answe
 
 // A call that is done and hands out the entry that it took, perhaps the last.
 fn took(x: u32, moves: usize, head: usize, len: usize, total: Total) -> Answer
-    ensures { result ≡ says 0 x moves (state (headAfter ring len head) len (summing (changed total.sum 0 x))) }
+    ensures { result ≡ says 0 x moves (state (head_after ring len head) len (summing (changed total.sum 0 x))) }
 {
     says(0, x, moves, left(head, len, total::took(total, x)))
 }
 
 // A call that is done and has dropped entries, perhaps all.
 fn cut(head: usize, len: usize, total: Total) -> Answer
-    ensures { result ≡ says 0 0 0 (state (headAfter ring len head) len total) }
+    ensures { result ≡ says 0 0 0 (state (head_after ring len head) len total) }
 {
     says(0, 0, 0, left(head, len, total))
 }

@@ -3,20 +3,20 @@
 use Rattle.std.proofs.Common.{◌≡◌, ℕ, sym, ap, ◌∙◌, arith}
 use contract.Lifetimes.{Lfts}
 use Rattle.slots.specs.Layout.{vector, itself}
-use Rattle.slots.proofs.Placing.{Placing, placing, placing-any}
+use Rattle.slots.proofs.Placing.{Placing, placing, placing_any}
 use Rattle.slots.proofs.Shifts.{one_down, one_up}
-use Rattle.slots.proofs.Fills.{one-fill}
-use Rattle.slots.proofs.Lays.{one-lay}
-use Rattle.slots.proofs.Compares.{one-tells}
+use Rattle.slots.proofs.Fills.{one_fill}
+use Rattle.slots.proofs.Lays.{one_lay}
+use Rattle.slots.proofs.Compares.{one_tells}
 use Rattle.slots.proofs.Twice.{Twice}
 use Rattle.runs.specs.declared.total.Total.{Total}
 use Rattle.runs.specs.Width.{summing}
 use Rattle.runs.proofs.word as word·fn
-use Rattle.runs.proofs.run_down as run-down·fn
-use Rattle.runs.proofs.run_up as run-up·fn
-use Rattle.runs.proofs.run_fill as run-fill·fn
-use Rattle.runs.proofs.shift_down as shift-down·fn
-use Rattle.runs.proofs.shift_up as shift-up·fn
+use Rattle.runs.proofs.run_down as run_down·fn
+use Rattle.runs.proofs.run_up as run_up·fn
+use Rattle.runs.proofs.run_fill as run_fill·fn
+use Rattle.runs.proofs.shift_down as shift_down·fn
+use Rattle.runs.proofs.shift_up as shift_up·fn
 use Rattle.runs.proofs.fill as fill·fn
 use Rattle.runs.proofs.copy as copy·fn
 use Rattle.runs.proofs.bring as bring·fn
@@ -29,90 +29,90 @@ plain : (c : ℕ) → Placing c itself itself
 plain c = placing vector c 0 (omega arith)
 
 -- a total is told by its sum
-one-total : (m : ℕ) (r r' : Total) → r.sum ≡ m → r'.sum ≡ m → r ≡ r'
-one-total m r r' p q = ap summing (p ∙ sym q)
+one_total : (m : ℕ) (r r' : Total) → r.sum ≡ m → r'.sum ≡ m → r ≡ r'
+one_total m r r' p q = ap summing (p ∙ sym q)
 
 -- In what follows a are the arguments, r and r' are results, and e and e' the arguments as they are at the return.
 module _ (κs : Lfts 0) where
-  pub word-once : Twice word·fn.ended κs (word·fn.Reads.Learnt κs) (λ r e r' e'. r ≡ r')
-  word-once a r r' e e' p q = p ∙ sym q
+  pub word_once : Twice word·fn.ended κs (word·fn.Reads.Learnt κs) (λ r e r' e'. r ≡ r')
+  word_once a r r' e e' p q = p ∙ sym q
 
-  pub none-once : Twice total·fn.none.ended κs (total·fn.none.Reads.Learnt κs) (λ r e r' e'. r ≡ r')
-  none-once a r r' e e' = one-total _ r r'
+  pub none_once : Twice total·fn.none.ended κs (total·fn.none.Reads.Learnt κs) (λ r e r' e'. r ≡ r')
+  none_once a r r' e e' = one_total _ r r'
 
-  pub put-once : Twice total·fn.put.ended κs (total·fn.put.Reads.Learnt κs) (λ r e r' e'. r ≡ r')
-  put-once a r r' e e' = one-total _ r r'
+  pub put_once : Twice total·fn.put.ended κs (total·fn.put.Reads.Learnt κs) (λ r e r' e'. r ≡ r')
+  put_once a r r' e e' = one_total _ r r'
 
-  pub took-once : Twice total·fn.took.ended κs (total·fn.took.Reads.Learnt κs) (λ r e r' e'. r ≡ r')
-  took-once a r r' e e' = one-total _ r r'
+  pub took_once : Twice total·fn.took.ended κs (total·fn.took.Reads.Learnt κs) (λ r e r' e'. r ≡ r')
+  took_once a r r' e e' = one_total _ r r'
 
-  pub traded-once : Twice total·fn.traded.ended κs (total·fn.traded.Reads.Learnt κs) (λ r e r' e'. r ≡ r')
-  traded-once a r r' e e' = one-total _ r r'
+  pub traded_once : Twice total·fn.traded.ended κs (total·fn.traded.Reads.Learnt κs) (λ r e r' e'. r ≡ r')
+  traded_once a r r' e e' = one_total _ r r'
 
-  pub more-once : Twice total·fn.more.ended κs (total·fn.more.Reads.Learnt κs) (λ r e r' e'. r ≡ r')
-  more-once a r r' e e' = one-total _ r r'
+  pub more_once : Twice total·fn.more.ended κs (total·fn.more.Reads.Learnt κs) (λ r e r' e'. r ≡ r')
+  more_once a r r' e e' = one_total _ r r'
 
-  pub less-once : Twice total·fn.less.ended κs (total·fn.less.Reads.Learnt κs) (λ r e r' e'. r ≡ r')
-  less-once a r r' e e' = one-total _ r r'
+  pub less_once : Twice total·fn.less.ended κs (total·fn.less.Reads.Learnt κs) (λ r e r' e'. r ≡ r')
+  less_once a r r' e e' = one_total _ r r'
 
-  pub times-once : Twice total·fn.times.ended κs (total·fn.times.Reads.Learnt κs) (λ r e r' e'. r ≡ r')
-  times-once a r r' e e' = one-total _ r r'
+  pub times_once : Twice total·fn.times.ended κs (total·fn.times.Reads.Learnt κs) (λ r e r' e'. r ≡ r')
+  times_once a r r' e e' = one_total _ r r'
 
 module _ (κs : Lfts 1) where
-  pub run-down-once : Twice run-down·fn.ended κs (run-down·fn.Reads.Learnt κs) (λ r e r' e'. e.0.now ≡ e'.0.now)
-  run-down-once a r r' e e' = one_down _ _ _ _ _ _ _ (plain _)
+  pub run_down_once : Twice run_down·fn.ended κs (run_down·fn.Reads.Learnt κs) (λ r e r' e'. e.0.now ≡ e'.0.now)
+  run_down_once a r r' e e' = one_down _ _ _ _ _ _ _ (plain _)
 
-  pub run-up-once : Twice run-up·fn.ended κs (run-up·fn.Reads.Learnt κs) (λ r e r' e'. e.0.now ≡ e'.0.now)
-  run-up-once a r r' e e' = one_up _ _ _ _ _ _ _ (plain _)
+  pub run_up_once : Twice run_up·fn.ended κs (run_up·fn.Reads.Learnt κs) (λ r e r' e'. e.0.now ≡ e'.0.now)
+  run_up_once a r r' e e' = one_up _ _ _ _ _ _ _ (plain _)
 
-  pub run-fill-once : Twice run-fill·fn.ended κs (run-fill·fn.Reads.Learnt κs) (λ r e r' e'. e.0.now ≡ e'.0.now)
-  run-fill-once a r r' e e' = one-fill _ _ _ _ _ _ _ _ (plain _)
+  pub run_fill_once : Twice run_fill·fn.ended κs (run_fill·fn.Reads.Learnt κs) (λ r e r' e'. e.0.now ≡ e'.0.now)
+  run_fill_once a r r' e e' = one_fill _ _ _ _ _ _ _ _ (plain _)
 
-  pub shift-down-once : Twice shift-down·fn.ended κs (shift-down·fn.Reads.Learnt κs) (λ r e r' e'. e.0.now ≡ e'.0.now)
-  shift-down-once a r r' e e' = one_down _ _ _ _ _ _ _ (placing-any _ _)
+  pub shift_down_once : Twice shift_down·fn.ended κs (shift_down·fn.Reads.Learnt κs) (λ r e r' e'. e.0.now ≡ e'.0.now)
+  shift_down_once a r r' e e' = one_down _ _ _ _ _ _ _ (placing_any _ _)
 
-  pub shift-up-once : Twice shift-up·fn.ended κs (shift-up·fn.Reads.Learnt κs) (λ r e r' e'. e.0.now ≡ e'.0.now)
-  shift-up-once a r r' e e' = one_up _ _ _ _ _ _ _ (placing-any _ _)
+  pub shift_up_once : Twice shift_up·fn.ended κs (shift_up·fn.Reads.Learnt κs) (λ r e r' e'. e.0.now ≡ e'.0.now)
+  shift_up_once a r r' e e' = one_up _ _ _ _ _ _ _ (placing_any _ _)
 
-  pub fill-once : Twice fill·fn.ended κs (fill·fn.Reads.Learnt κs) (λ r e r' e'. e.0.now ≡ e'.0.now)
-  fill-once a r r' e e' = one-fill _ _ _ _ _ _ _ _ (placing-any _ _)
+  pub fill_once : Twice fill·fn.ended κs (fill·fn.Reads.Learnt κs) (λ r e r' e'. e.0.now ≡ e'.0.now)
+  fill_once a r r' e e' = one_fill _ _ _ _ _ _ _ _ (placing_any _ _)
 
-  pub part-once : Twice total·fn.part.ended κs (total·fn.part.Reads.Learnt κs) (λ r e r' e'. r ≡ r')
-  part-once a r r' e e' = one-total _ r r'
+  pub part_once : Twice total·fn.part.ended κs (total·fn.part.Reads.Learnt κs) (λ r e r' e'. r ≡ r')
+  part_once a r r' e e' = one_total _ r r'
 
-  pub run-once : Twice total·fn.run.ended κs (total·fn.run.Reads.Learnt κs) (λ r e r' e'. r ≡ r')
-  run-once a r r' e e' = one-total _ r r'
+  pub run_once : Twice total·fn.run.ended κs (total·fn.run.Reads.Learnt κs) (λ r e r' e'. r ≡ r')
+  run_once a r r' e e' = one_total _ r r'
 
-  pub ring-once : Twice total·fn.ring.ended κs (total·fn.ring.Reads.Learnt κs) (λ r e r' e'. r ≡ r')
-  ring-once a r r' e e' = one-total _ r r'
+  pub ring_once : Twice total·fn.ring.ended κs (total·fn.ring.Reads.Learnt κs) (λ r e r' e'. r ≡ r')
+  ring_once a r r' e e' = one_total _ r r'
 
-  pub run-clear-once : Twice clear·fn.run_clear.ended κs (clear·fn.run_clear.Reads.Learnt κs) (λ r e r' e'. (r ≡ r') × (e.0.now ≡ e'.0.now))
-  run-clear-once a r r' e e' p q = (one-total _ r r' p.0 q.0, one-fill _ _ _ _ _ _ _ _ (plain _) p.1 q.1)
+  pub run_clear_once : Twice clear·fn.run_clear.ended κs (clear·fn.run_clear.Reads.Learnt κs) (λ r e r' e'. (r ≡ r') × (e.0.now ≡ e'.0.now))
+  run_clear_once a r r' e e' p q = (one_total _ r r' p.0 q.0, one_fill _ _ _ _ _ _ _ _ (plain _) p.1 q.1)
 
-  pub ring-clear-once : Twice clear·fn.ring_clear.ended κs (clear·fn.ring_clear.Reads.Learnt κs) (λ r e r' e'. (r ≡ r') × (e.0.now ≡ e'.0.now))
-  ring-clear-once a r r' e e' p q = (one-total _ r r' p.0 q.0, one-fill _ _ _ _ _ _ _ _ (placing-any _ _) p.1 q.1)
+  pub ring_clear_once : Twice clear·fn.ring_clear.ended κs (clear·fn.ring_clear.Reads.Learnt κs) (λ r e r' e'. (r ≡ r') × (e.0.now ≡ e'.0.now))
+  ring_clear_once a r r' e e' p q = (one_total _ r r' p.0 q.0, one_fill _ _ _ _ _ _ _ _ (placing_any _ _) p.1 q.1)
 
 module _ (κs : Lfts 2) where
-  pub run-copy-once : Twice copy·fn.run_copy.ended κs (copy·fn.run_copy.Reads.Learnt κs) (λ r e r' e'. e.0.now ≡ e'.0.now)
-  run-copy-once a r r' e e' = one-lay _ _ _ _ _ _ _ _ (plain _)
+  pub run_copy_once : Twice copy·fn.run_copy.ended κs (copy·fn.run_copy.Reads.Learnt κs) (λ r e r' e'. e.0.now ≡ e'.0.now)
+  run_copy_once a r r' e e' = one_lay _ _ _ _ _ _ _ _ (plain _)
 
-  pub carry-once : Twice copy·fn.carry.ended κs (copy·fn.carry.Reads.Learnt κs) (λ r e r' e'. e.0.now ≡ e'.0.now)
-  carry-once a r r' e e' = one-lay _ _ _ _ _ _ _ _ (placing-any _ _)
+  pub carry_once : Twice copy·fn.carry.ended κs (copy·fn.carry.Reads.Learnt κs) (λ r e r' e'. e.0.now ≡ e'.0.now)
+  carry_once a r r' e e' = one_lay _ _ _ _ _ _ _ _ (placing_any _ _)
 
-  pub bring-part-once : Twice bring·fn.bring_part.ended κs (bring·fn.bring_part.Reads.Learnt κs) (λ r e r' e'. (r ≡ r') × (e.0.now ≡ e'.0.now))
-  bring-part-once a r r' e e' p q = (one-total _ r r' p.1 q.1, one-lay _ _ _ _ _ _ _ _ (plain _) p.0 q.0)
+  pub bring_part_once : Twice bring·fn.bring_part.ended κs (bring·fn.bring_part.Reads.Learnt κs) (λ r e r' e'. (r ≡ r') × (e.0.now ≡ e'.0.now))
+  bring_part_once a r r' e e' p q = (one_total _ r r' p.1 q.1, one_lay _ _ _ _ _ _ _ _ (plain _) p.0 q.0)
 
-  pub bring-run-once : Twice bring·fn.bring_run.ended κs (bring·fn.bring_run.Reads.Learnt κs) (λ r e r' e'. (r ≡ r') × (e.0.now ≡ e'.0.now))
-  bring-run-once a r r' e e' p q = (one-total _ r r' p.1 q.1, one-lay _ _ _ _ _ _ _ _ (plain _) p.0 q.0)
+  pub bring_run_once : Twice bring·fn.bring_run.ended κs (bring·fn.bring_run.Reads.Learnt κs) (λ r e r' e'. (r ≡ r') × (e.0.now ≡ e'.0.now))
+  bring_run_once a r r' e e' p q = (one_total _ r r' p.1 q.1, one_lay _ _ _ _ _ _ _ _ (plain _) p.0 q.0)
 
-  pub bring-ring-once : Twice bring·fn.bring_ring.ended κs (bring·fn.bring_ring.Reads.Learnt κs) (λ r e r' e'. (r ≡ r') × (e.0.now ≡ e'.0.now))
-  bring-ring-once a r r' e e' p q = (one-total _ r r' p.1 q.1, one-lay _ _ _ _ _ _ _ _ (plain _) p.0 q.0)
+  pub bring_ring_once : Twice bring·fn.bring_ring.ended κs (bring·fn.bring_ring.Reads.Learnt κs) (λ r e r' e'. (r ≡ r') × (e.0.now ≡ e'.0.now))
+  bring_ring_once a r r' e e' p q = (one_total _ r r' p.1 q.1, one_lay _ _ _ _ _ _ _ _ (plain _) p.0 q.0)
 
-  pub firsts-once : Twice compare·fn.firsts.ended κs (compare·fn.firsts.Reads.Learnt κs) (λ r e r' e'. r ≡ r')
-  firsts-once a r r' e e' = one-tells r r' _ _
+  pub firsts_once : Twice compare·fn.firsts.ended κs (compare·fn.firsts.Reads.Learnt κs) (λ r e r' e'. r ≡ r')
+  firsts_once a r r' e e' = one_tells r r' _ _
 
-  pub ring-with-once : Twice compare·fn.ring_with.ended κs (compare·fn.ring_with.Reads.Learnt κs) (λ r e r' e'. r ≡ r')
-  ring-with-once a r r' e e' = one-tells r r' _ _
+  pub ring_with_once : Twice compare·fn.ring_with.ended κs (compare·fn.ring_with.Reads.Learnt κs) (λ r e r' e'. r ≡ r')
+  ring_with_once a r r' e e' = one_tells r r' _ _
 
-  pub rings-once : Twice compare·fn.rings.ended κs (compare·fn.rings.Reads.Learnt κs) (λ r e r' e'. r ≡ r')
-  rings-once a r r' e e' = one-tells r r' _ _
+  pub rings_once : Twice compare·fn.rings.ended κs (compare·fn.rings.Reads.Learnt κs) (λ r e r' e'. r ≡ r')
+  rings_once a r r' e e' = one_tells r r' _ _

@@ -9,16 +9,16 @@ use lib.Dec.{ltb, leb, eqb}
 use lib.ListN.{length, drop, length-drop}
 use Rattle.slots.specs.Layout.{most, Kind, ring, vector}
 use Rattle.table.specs.Tray.{valid}
-use Rattle.table.proofs.Laws.Valid.{ring-facts, vector-facts, and_left, and_right}
+use Rattle.table.proofs.Laws.Valid.{ring_facts, vector_facts, and_left, and_right}
 use Rattle.lines.specs.Line.{is_line, field}
-use Rattle.lines.proofs.Parts.{line-parts}
-use Rattle.stored.specs.Form.{kindByte, size}
+use Rattle.lines.proofs.Parts.{line_parts}
+use Rattle.stored.specs.Form.{kind_byte, size}
 use Rattle.stored.specs.Acceptable.{Acceptable, Exact}
-use Rattle.stored.specs.Judge.{areLines, capIn, head_of, lenIn, isOlder, stands, opens, judge, judgeBy}
-use Rattle.stored.proofs.Judging.{opens-line}
-use Rattle.stored.proofs.Exactly.{accepts, opened, start, state, lines, judge-exact}
+use Rattle.stored.specs.Judge.{are_lines, cap_in, head_of, len_in, is_older, stands, opens, judge, judge_by}
+use Rattle.stored.proofs.Judging.{opens_line}
+use Rattle.stored.proofs.Exactly.{accepts, opened, start, state, lines, judge_exact}
 use Rattle.show.specs.declared.faults.Fault.{Fault}
-use Rattle.show.specs.Faults.{faultAt, sound, leading, lineFault, headWhat, stateFault, firstFault, slotsFault, or_else, fault}
+use Rattle.show.specs.Faults.{fault_at, sound, leading, line_fault, head_what, state_fault, first_fault, slots_fault, or_else, fault}
 
 -- two tests that imply each other
 both_ways : (a b : Bool) → (a ≡ true → b ≡ true) → (b ≡ true → a ≡ true) → a ≡ b
@@ -31,23 +31,23 @@ past : (b : Bool) (f g : Fault) → (f.what ≡ 0 → ⊥) → (cond b f g).what
 past true f g bad e = absurd (bad e)
 past false f g bad e = (refl, e)
 
-first-none : (f g : Fault) → (or_else f g).what ≡ 0 → f.what ≡ 0
-first-none f g e = go (eqb f.what 0) refl
+first_none : (f g : Fault) → (or_else f g).what ≡ 0 → f.what ≡ 0
+first_none f g e = go (eqb f.what 0) refl
   where
     go : (b : Bool) → eqb f.what 0 ≡ b → f.what ≡ 0
     go true is = eqb-true _ _ is
     go false is = rw is at e
 
 second_none : (f g : Fault) → (or_else f g).what ≡ 0 → g.what ≡ 0
-second_none f g e = rw (eq-eqb f.what 0 (first-none f g e)) at e
+second_none f g e = rw (eq-eqb f.what 0 (first_none f g e)) at e
 
-both-none : (f g : Fault) → f.what ≡ 0 → g.what ≡ 0 → (or_else f g).what ≡ 0
-both-none f g ef eg = rw (eq-eqb f.what 0 ef) eg
+both_none : (f g : Fault) → f.what ≡ 0 → g.what ≡ 0 → (or_else f g).what ≡ 0
+both_none f g ef eg = rw (eq-eqb f.what 0 ef) eg
 
 -- A LINE
-line-yes : (line n : ℕ) (s : List ℕ) → (lineFault line n s).what ≡ 0 → is_line n s ≡ true
-unfolding lineFault
-line-yes line n s e = go (is_line n s) refl
+line_yes : (line n : ℕ) (s : List ℕ) → (line_fault line n s).what ≡ 0 → is_line n s ≡ true
+unfolding line_fault
+line_yes line n s e = go (is_line n s) refl
   where
     bad : (b : Bool) (f g : Fault) → f.what ≡ 1 → g.what ≡ 2 → (cond b f g).what ≡ 0 → ⊥
     bad true f g ef eg e = omega arith
@@ -55,32 +55,32 @@ line-yes line n s e = go (is_line n s) refl
 
     go : (b : Bool) → is_line n s ≡ b → is_line n s ≡ true
     go true is = is
-    go false is = absurd (bad (ltb (leading n s) n) (faultAt line (leading n s + 1) 1) (faultAt line (n + 1) 2) refl refl (rw is at e))
+    go false is = absurd (bad (ltb (leading n s) n) (fault_at line (leading n s + 1) 1) (fault_at line (n + 1) 2) refl refl (rw is at e))
 
-line-none : (line n : ℕ) (s : List ℕ) → is_line n s ≡ true → (lineFault line n s).what ≡ 0
-unfolding lineFault
-line-none line n s is = rw is
+line_none : (line n : ℕ) (s : List ℕ) → is_line n s ≡ true → (line_fault line n s).what ≡ 0
+unfolding line_fault
+line_none line n s is = rw is
 
 -- THE SLOTS' LINES, and nothing behind them
-slots-yes : (line n : ℕ) (s : List ℕ) → (slotsFault line n s).what ≡ 0 → (areLines n s ≡ true) × (length s ≡ 9 * n)
-unfolding slotsFault areLines
-slots-yes line zero s e = let none = (past (ltb 0 (length s)) (faultAt line 1 10) sound (λ z. omega arith) e).0 in (refl, omega (arith, ltb-false 0 (length s) none))
-slots-yes line (suc n) s e = go (is_line 8 s) refl (slots-yes (line + 1) n (drop 9 s))
+slots_yes : (line n : ℕ) (s : List ℕ) → (slots_fault line n s).what ≡ 0 → (are_lines n s ≡ true) × (length s ≡ 9 * n)
+unfolding slots_fault are_lines
+slots_yes line zero s e = let none = (past (ltb 0 (length s)) (fault_at line 1 10) sound (λ z. omega arith) e).0 in (refl, omega (arith, ltb-false 0 (length s) none))
+slots_yes line (suc n) s e = go (is_line 8 s) refl (slots_yes (line + 1) n (drop 9 s))
   where
-    go : (b : Bool) → is_line 8 s ≡ b → ((slotsFault (line + 1) n (drop 9 s)).what ≡ 0 → (areLines n (drop 9 s) ≡ true) × (length (drop 9 s) ≡ 9 * n))
-        → (is_line 8 s && areLines n (drop 9 s) ≡ true) × (length s ≡ 9 * suc n)
+    go : (b : Bool) → is_line 8 s ≡ b → ((slots_fault (line + 1) n (drop 9 s)).what ≡ 0 → (are_lines n (drop 9 s) ≡ true) × (length (drop 9 s) ≡ 9 * n))
+        → (is_line 8 s && are_lines n (drop 9 s) ≡ true) × (length s ≡ 9 * suc n)
     go true is others =
         let rest = others (rw is at e) in
-        let l = line-parts 8 s is in
+        let l = line_parts 8 s is in
         (rw is rest.0, omega (arith, l.long, simp length-drop at rest.1))
-    go false is others = absurd (let one = line-yes line 8 s (rw is at e) in let z : true ≡ false = sym one ∙ is in let n : ◌≡◌ {A = ℕ} 0 1 = cc in omega arith)
+    go false is others = absurd (let one = line_yes line 8 s (rw is at e) in let z : true ≡ false = sym one ∙ is in let n : ◌≡◌ {A = ℕ} 0 1 = cc in omega arith)
 
-slots-none : (line n : ℕ) (s : List ℕ) → areLines n s ≡ true → length s ≡ 9 * n → (slotsFault line n s).what ≡ 0
-unfolding slotsFault areLines
-slots-none line zero s all long = let none : length s ≤ 0 = omega arith in rw (le-ltb 0 (length s) none)
-slots-none line (suc n) s all long =
+slots_none : (line n : ℕ) (s : List ℕ) → are_lines n s ≡ true → length s ≡ 9 * n → (slots_fault line n s).what ≡ 0
+unfolding slots_fault are_lines
+slots_none line zero s all long = let none : length s ≤ 0 = omega arith in rw (le-ltb 0 (length s) none)
+slots_none line (suc n) s all long =
     let is = and_left (is_line 8 s) _ all in
-    rw is (slots-none (line + 1) n (drop 9 s) (and_right (is_line 8 s) _ all) (simp length-drop (omega arith)))
+    rw is (slots_none (line + 1) n (drop 9 s) (and_right (is_line 8 s) _ all) (simp length-drop (omega arith)))
 
 -- THE STATE
 pub record Fine (kind form c h n : ℕ) : Type 0 where
@@ -95,66 +95,66 @@ pass : (b : Bool) (x y : ℕ) → (x ≡ 0 → ⊥) → cond b x y ≡ 0 → (b 
 pass true x y bad e = absurd (bad e)
 pass false x y bad e = (refl, e)
 
-head-yes : (kind c h : ℕ) → headWhat kind c h ≡ 0 → 0 < h → (kind ≡ 1 → ⊥) × (h < c)
-unfolding headWhat
-head-yes kind c h e some =
+head_yes : (kind c h : ℕ) → head_what kind c h ≡ 0 → 0 < h → (kind ≡ 1 → ⊥) × (h < c)
+unfolding head_what
+head_yes kind c h e some =
     let other : (h ≡ 0 → ⊥) = λ z. omega arith in
     let a = pass (eqb kind 1) 7 _ (λ z. omega arith) (rw (ne_eqb h 0 other) at e) in
     let b = pass (eqb c 0) 8 _ (λ z. omega arith) a.1 in
     let d = pass (leb c h) 6 0 (λ z. omega arith) b.1 in
     (eqb-false _ _ a.0, leb-false _ _ d.0)
 
-head-none : (kind c h : ℕ) → (kind ≡ 1 → h ≡ 0) → (0 < h → h < c) → headWhat kind c h ≡ 0
-unfolding headWhat
-head-none kind c zero v b = refl
-head-none kind c (suc h) v b =
+head_none : (kind c h : ℕ) → (kind ≡ 1 → h ≡ 0) → (0 < h → h < c) → head_what kind c h ≡ 0
+unfolding head_what
+head_none kind c zero v b = refl
+head_none kind c (suc h) v b =
     let lt : suc h < c = b (omega arith) in
     let k : (kind ≡ 1 → ⊥) = λ e. let z : suc h ≡ 0 = v e in omega arith in
     let some : (c ≡ 0 → ⊥) = λ e. omega arith in
     let head : (suc h ≡ 0 → ⊥) = λ e. omega arith in
     rw (ne_eqb (suc h) 0 head, ne_eqb kind 1 k, ne_eqb c 0 some, lt-leb c (suc h) lt)
 
-state-yes : (kind form c h n : ℕ) → (stateFault kind form c h n).what ≡ 0 → Fine kind form c h n
-unfolding stateFault
-state-yes kind form c h n e =
-    let a = past (ltb 1 kind) (faultAt 1 1 3) _ (λ z. omega arith) e in
-    let b = past (ltb 0 form) (faultAt 1 3 4) _ (λ z. omega arith) a.1 in
-    let d = past (ltb most c) (faultAt 1 5 5) _ (λ z. omega arith) b.1 in
-    let w : ℕ = headWhat kind c h in
-    let g = head-zero w d.1 in
-    let i = past (ltb c n) (faultAt 1 13 9) sound (λ z. omega arith) g.1 in
+state_yes : (kind form c h n : ℕ) → (state_fault kind form c h n).what ≡ 0 → Fine kind form c h n
+unfolding state_fault
+state_yes kind form c h n e =
+    let a = past (ltb 1 kind) (fault_at 1 1 3) _ (λ z. omega arith) e in
+    let b = past (ltb 0 form) (fault_at 1 3 4) _ (λ z. omega arith) a.1 in
+    let d = past (ltb most c) (fault_at 1 5 5) _ (λ z. omega arith) b.1 in
+    let w : ℕ = head_what kind c h in
+    let g = head_zero w d.1 in
+    let i = past (ltb c n) (fault_at 1 13 9) sound (λ z. omega arith) g.1 in
     record {
       kinded = omega (arith, ltb-false 1 kind a.0);
       formed = omega (arith, ltb-false 0 form b.0);
       small = omega (arith, ltb-false most c d.0);
       unheaded = λ v. headless v g.0;
-      below = λ some. (head-yes kind c h g.0 some).1;
+      below = λ some. (head_yes kind c h g.0 some).1;
       fits = omega (arith, ltb-false c n i.0);
     }
   where
-    head-zero : (w : ℕ) → (cond (ltb 0 w) (faultAt 1 9 w) (cond (ltb c n) (faultAt 1 13 9) sound)).what ≡ 0 → (w ≡ 0) × ((cond (ltb c n) (faultAt 1 13 9) sound).what ≡ 0)
-    head-zero w e = go (ltb 0 w) refl
+    head_zero : (w : ℕ) → (cond (ltb 0 w) (fault_at 1 9 w) (cond (ltb c n) (fault_at 1 13 9) sound)).what ≡ 0 → (w ≡ 0) × ((cond (ltb c n) (fault_at 1 13 9) sound).what ≡ 0)
+    head_zero w e = go (ltb 0 w) refl
       where
-        go : (b : Bool) → ltb 0 w ≡ b → (w ≡ 0) × ((cond (ltb c n) (faultAt 1 13 9) sound).what ≡ 0)
+        go : (b : Bool) → ltb 0 w ≡ b → (w ≡ 0) × ((cond (ltb c n) (fault_at 1 13 9) sound).what ≡ 0)
         go true is = absurd (let z : w ≡ 0 = rw is at e in omega (arith, ltb-true 0 w is))
         go false is = (omega (arith, ltb-false 0 w is), rw is at e)
 
-    headless : kind ≡ 1 → headWhat kind c h ≡ 0 → h ≡ 0
+    headless : kind ≡ 1 → head_what kind c h ≡ 0 → h ≡ 0
     headless v e = go (ltb 0 h) refl
       where
         go : (b : Bool) → ltb 0 h ≡ b → h ≡ 0
-        go true is = absurd ((head-yes kind c h e (ltb-true _ _ is)).0 v)
+        go true is = absurd ((head_yes kind c h e (ltb-true _ _ is)).0 v)
         go false is = omega (arith, ltb-false 0 h is)
 
-state-none : (kind form c h n : ℕ) → Fine kind form c h n → (stateFault kind form c h n).what ≡ 0
-unfolding stateFault
-state-none kind form c h n f =
+state_none : (kind form c h n : ℕ) → Fine kind form c h n → (state_fault kind form c h n).what ≡ 0
+unfolding state_fault
+state_none kind form c h n f =
     let z : form ≤ 0 = omega (arith, f.formed) in
-    rw (le-ltb 1 kind f.kinded, le-ltb 0 form z, le-ltb most c f.small, head-none kind c h f.unheaded f.below, le-ltb c n f.fits)
+    rw (le-ltb 1 kind f.kinded, le-ltb 0 form z, le-ltb most c f.small, head_none kind c h f.unheaded f.below, le-ltb c n f.fits)
 
-or-true : (b : Bool) → b || true ≡ true
-or-true true = refl
-or-true false = refl
+or_true : (b : Bool) → b || true ≡ true
+or_true true = refl
+or_true false = refl
 
 some_or_none : (c : ℕ) → ltb 0 c || (eqb c 0 && true) ≡ true
 some_or_none c = go (ltb 0 c) refl
@@ -164,30 +164,30 @@ some_or_none c = go (ltb 0 c) refl
     go false is = let none : c ≡ 0 = omega (arith, ltb-false 0 c is) in rw (is, eq-eqb c 0 none)
 
 -- a state without a fault is one that a text of this kind may have, and the other way round
-fine-stands : (k : Kind) (form c h n : ℕ) → Fine (kindByte k) form c h n → stands k c h n ≡ true
+fine_stands : (k : Kind) (form c h n : ℕ) → Fine (kind_byte k) form c h n → stands k c h n ≡ true
 unfolding stands valid
-fine-stands vector form c h n f = let z : h ≡ 0 = f.unheaded refl in rw (eq-eqb h 0 z, le-leb n c f.fits, le-leb c most f.small)
-fine-stands ring form c zero n f = rw (le-leb c most f.small, le-leb n c f.fits, some_or_none c, or-true (ltb 0 n))
-fine-stands ring form c (suc h) zero f =
+fine_stands vector form c h n f = let z : h ≡ 0 = f.unheaded refl in rw (eq-eqb h 0 z, le-leb n c f.fits, le-leb c most f.small)
+fine_stands ring form c zero n f = rw (le-leb c most f.small, le-leb n c f.fits, some_or_none c, or_true (ltb 0 n))
+fine_stands ring form c (suc h) zero f =
     let lt : suc h < c = f.below (omega arith) in
-    let old : isOlder c (suc h) 0 ≡ true = rw (lt-ltb (suc h) c lt, le-leb c most f.small) in
-    rw old (or-true (valid ring c (suc h) 0))
-fine-stands ring form c (suc h) (suc n) f =
+    let old : is_older c (suc h) 0 ≡ true = rw (lt-ltb (suc h) c lt, le-leb c most f.small) in
+    rw old (or_true (valid ring c (suc h) 0))
+fine_stands ring form c (suc h) (suc n) f =
     let lt : suc h < c = f.below (omega arith) in
     let some : 0 < suc n = omega arith in
     rw (le-leb c most f.small, le-leb (suc n) c f.fits, lt-ltb (suc h) c lt, lt-ltb 0 (suc n) some)
 
-stands-fine : (k : Kind) (form c h n : ℕ) → form ≡ 0 → stands k c h n ≡ true → Fine (kindByte k) form c h n
+stands_fine : (k : Kind) (form c h n : ℕ) → form ≡ 0 → stands k c h n ≡ true → Fine (kind_byte k) form c h n
 unfolding stands valid
-stands-fine vector form c h n z e =
+stands_fine vector form c h n z e =
     let head : h ≡ 0 = eqb-true _ _ (and_left _ _ e) in
-    let v = vector-facts c n (ap not (and_right (eqb h 0) _ e)) in
+    let v = vector_facts c n (ap not (and_right (eqb h 0) _ e)) in
     record { kinded = omega arith; formed = z; small = v.small; unheaded = λ k. head; below = λ some. omega arith; fits = v.fits }
-stands-fine ring form c h n z e = go (valid ring c h n) refl e
+stands_fine ring form c h n z e = go (valid ring c h n) refl e
   where
-    go : (b : Bool) → valid ring c h n ≡ b → b || isOlder c h n ≡ true → Fine 0 form c h n
+    go : (b : Bool) → valid ring c h n ≡ b → b || is_older c h n ≡ true → Fine 0 form c h n
     go true is e =
-        let v = ring-facts c h n (ap not is) in
+        let v = ring_facts c h n (ap not is) in
         record { kinded = omega arith; formed = z; small = v.small; unheaded = λ k. omega arith; below = λ some. omega (arith, v.inside); fits = v.fits }
     go false is e =
         let none : n ≡ 0 = eqb-true _ _ (and_left _ _ e) in
@@ -204,60 +204,60 @@ module _ (text : List ℕ) where
   -- the three parts of a text without a fault
   pub record Parts : Type 0 where
     pub line : is_line 16 text ≡ true
-    pub fine : Fine kind (field 2 2 text) (capIn text) (head_of text) (lenIn text)
-    pub slots : areLines (capIn text) (drop 17 text) ≡ true
-    pub long : length (drop 17 text) ≡ 9 * capIn text
+    pub fine : Fine kind (field 2 2 text) (cap_in text) (head_of text) (len_in text)
+    pub slots : are_lines (cap_in text) (drop 17 text) ≡ true
+    pub long : length (drop 17 text) ≡ 9 * cap_in text
 
   pub parts : (fault text).what ≡ 0 → Parts
-  unfolding fault firstFault
+  unfolding fault first_fault
   parts e =
-      let F = firstFault text in
-      let S = slotsFault 2 (field 4 4 text) (drop 17 text) in
-      let rest = second_none (lineFault 1 16 text) (or_else F S) e in
-      let all = slots-yes 2 (capIn text) (drop 17 text) (second_none F S rest) in
-      record { line = line-yes 1 16 text (first-none (lineFault 1 16 text) (or_else F S) e); fine = state-yes _ _ _ _ _ (first-none F S rest); slots = all.0; long = all.1 }
+      let F = first_fault text in
+      let S = slots_fault 2 (field 4 4 text) (drop 17 text) in
+      let rest = second_none (line_fault 1 16 text) (or_else F S) e in
+      let all = slots_yes 2 (cap_in text) (drop 17 text) (second_none F S rest) in
+      record { line = line_yes 1 16 text (first_none (line_fault 1 16 text) (or_else F S) e); fine = state_yes _ _ _ _ _ (first_none F S rest); slots = all.0; long = all.1 }
 
   -- no fault, and the kind is k: the text is judged acceptable as a k
-  pub none-judged : (k : Kind) → kind ≡ kindByte k → (fault text).what ≡ 0 → judge k text ≡ true
+  pub none_judged : (k : Kind) → kind ≡ kind_byte k → (fault text).what ≡ 0 → judge k text ≡ true
   unfolding judge opens
-  none-judged k ek e =
+  none_judged k ek e =
       let p = parts e in
-      let long : length text ≡ size (capIn text) = omega (arith, (line-parts 16 text p.line).long, simp length-drop at p.long) in
-      rw (p.line, eq-eqb _ _ ek, eq-eqb _ _ p.fine.formed, eq-eqb _ _ long, fine-stands k (field 2 2 text) (capIn text) (head_of text) (lenIn text) (rw ek at p.fine), p.slots)
+      let long : length text ≡ size (cap_in text) = omega (arith, (line_parts 16 text p.line).long, simp length-drop at p.long) in
+      rw (p.line, eq-eqb _ _ ek, eq-eqb _ _ p.fine.formed, eq-eqb _ _ long, fine_stands k (field 2 2 text) (cap_in text) (head_of text) (len_in text) (rw ek at p.fine), p.slots)
 
-  pub judged-none : (k : Kind) → judge k text ≡ true → (fault text).what ≡ 0
-  unfolding fault firstFault
-  judged-none k ok =
-      let o = opened (kindByte k) text (start k text ok) in
-      let body : length (drop 17 text) ≡ 9 * capIn text = simp length-drop (omega (arith, o.long)) in
-      let fine = stands-fine k (field 2 2 text) (capIn text) (head_of text) (lenIn text) o.none (state k text ok) in
-      both-none (lineFault 1 16 text) _ (line-none 1 16 text (opens-line (kindByte k) text (start k text ok)))
-      (both-none (firstFault text) _ (state-none _ _ _ _ _ (rw (← o.kinded) at fine)) (slots-none 2 (capIn text) (drop 17 text) (lines k text ok) body))
+  pub judged_none : (k : Kind) → judge k text ≡ true → (fault text).what ≡ 0
+  unfolding fault first_fault
+  judged_none k ok =
+      let o = opened (kind_byte k) text (start k text ok) in
+      let body : length (drop 17 text) ≡ 9 * cap_in text = simp length-drop (omega (arith, o.long)) in
+      let fine = stands_fine k (field 2 2 text) (cap_in text) (head_of text) (len_in text) o.none (state k text ok) in
+      both_none (line_fault 1 16 text) _ (line_none 1 16 text (opens_line (kind_byte k) text (start k text ok)))
+      (both_none (first_fault text) _ (state_none _ _ _ _ _ (rw (← o.kinded) at fine)) (slots_none 2 (cap_in text) (drop 17 text) (lines k text ok) body))
 
   -- a kind without a fault is a ring's or a vector's
-  pub some-kind : (fault text).what ≡ 0 → (kind ≡ 0 → ⊥) → kind ≡ 1
-  some-kind e other = go kind (parts e).fine.kinded other
+  pub some_kind : (fault text).what ≡ 0 → (kind ≡ 0 → ⊥) → kind ≡ 1
+  some_kind e other = go kind (parts e).fine.kinded other
     where
       go : (k : ℕ) → k ≤ 1 → (k ≡ 0 → ⊥) → k ≡ 1
       go zero few other = absurd (other refl)
       go (suc k) few other = omega arith
 
   -- no fault exactly when the text is judged acceptable, as a k or by the kind that its first two digits say
-  pub same : (k : Kind) → kind ≡ kindByte k → eqb (fault text).what 0 ≡ judge k text
-  same k ek = both_ways _ _ (λ t. none-judged k ek (eqb-true _ _ t)) (λ t. eq-eqb _ _ (judged-none k t))
+  pub same : (k : Kind) → kind ≡ kind_byte k → eqb (fault text).what 0 ≡ judge k text
+  same k ek = both_ways _ _ (λ t. none_judged k ek (eqb-true _ _ t)) (λ t. eq-eqb _ _ (judged_none k t))
 
-  pub fault-judged : eqb (fault text).what 0 ≡ judgeBy kind text
-  unfolding judgeBy
-  fault-judged = go (eqb kind 0) refl (eqb kind 1) refl
+  pub fault_judged : eqb (fault text).what 0 ≡ judge_by kind text
+  unfolding judge_by
+  fault_judged = go (eqb kind 0) refl (eqb kind 1) refl
     where
       go : (a : Bool) → eqb kind 0 ≡ a → (b : Bool) → eqb kind 1 ≡ b → eqb (fault text).what 0 ≡ cond (eqb kind 0) (judge ring text) (cond (eqb kind 1) (judge vector text) false)
       go true ea b eb = rw ea (same ring (eqb-true _ _ ea))
       go false ea true eb = rw (ea, eb) (same vector (eqb-true _ _ eb))
-      go false ea false eb = rw (ea, eb) (ne_eqb _ _ (λ ok. eqb-false kind 1 eb (some-kind ok (eqb-false kind 0 ea))))
+      go false ea false eb = rw (ea, eb) (ne_eqb _ _ (λ ok. eqb-false kind 1 eb (some_kind ok (eqb-false kind 0 ea))))
 
   -- NO FAULT, EXACTLY WHEN ACCEPTABLE for the kind that the first two digits say; and none in a text that is acceptable for either
-  pub fault-exact : (k : Kind) → kind ≡ kindByte k → Exact (eqb (fault text).what 0) k text
-  fault-exact k ek = rw (same k ek) (judge-exact k text)
+  pub fault_exact : (k : Kind) → kind ≡ kind_byte k → Exact (eqb (fault text).what 0) k text
+  fault_exact k ek = rw (same k ek) (judge_exact k text)
 
-  pub acceptable-none : (k : Kind) → Acceptable k text → (fault text).what ≡ 0
-  acceptable-none k a = judged-none k (accepts k text a.tray a.stands)
+  pub acceptable_none : (k : Kind) → Acceptable k text → (fault text).what ≡ 0
+  acceptable_none k a = judged_none k (accepts k text a.tray a.stands)

@@ -9,76 +9,76 @@ use lib.ListN.{length, get_or, take, length-take}
 use lib.Seq.{ext_get_or}
 use Rattle.slots.specs.Layout.{most, Kind, ring, vector, itself, slot_of}
 use Rattle.slots.specs.Total.{total}
-use Rattle.slots.proofs.Placing.{length-entries, entry}
-use Rattle.slots.proofs.Lays.{slot-near}
+use Rattle.slots.proofs.Placing.{length_entries, entry}
+use Rattle.slots.proofs.Lays.{slot_near}
 use Rattle.table.specs.Tray.{Tray, cap, list}
 use Rattle.table.specs.Does.{Outcome, gives}
 use Rattle.table.proofs.Laws.Valid.{Valid}
 use Rattle.lines.specs.Line.{is_line, field}
-use Rattle.ring.specs.declared.Answer as ringAnswer
+use Rattle.ring.specs.declared.Answer as ring_answer
 use Rattle.ring.specs.Seen as rings
-use Rattle.vector.specs.declared.Answer as vectorAnswer
+use Rattle.vector.specs.declared.Answer as vector_answer
 use Rattle.vector.specs.Seen as vectors
-use Rattle.stored.specs.Form.{kindByte}
-use Rattle.stored.specs.Judge.{told, capIn}
-use Rattle.stored.specs.Reads.{reads, totalRead, RingRead, VectorRead}
-use Rattle.stored.proofs.Judging.{opens-line}
-use Rattle.stored.proofs.Exactly.{start, many, standing-valid, stands-told}
+use Rattle.stored.specs.Form.{kind_byte}
+use Rattle.stored.specs.Judge.{told, cap_in}
+use Rattle.stored.specs.Reads.{reads, total_read, RingRead, VectorRead}
+use Rattle.stored.proofs.Judging.{opens_line}
+use Rattle.stored.proofs.Exactly.{start, many, standing_valid, stands_told}
 use Rattle.show.specs.declared.faults.Fault.{Fault}
-use Rattle.show.specs.Rows.{listIn}
+use Rattle.show.specs.Rows.{list_in}
 use Rattle.show.specs.Drawable.{Drawable, Shown}
 use Rattle.show.specs.Faults.{fault}
-use Rattle.show.proofs.Exact.{parts, none-judged, some-kind}
+use Rattle.show.proofs.Exact.{parts, none_judged, some_kind}
 
 module _ (k : Kind) (text before : List ℕ) (d : Drawable k text before) where
-  told-valid : Valid (cap (told k text)) (told k text).head (told k text).len
-  told-valid = standing-valid k text (told k text) (stands-told k text d.accepted)
+  told_valid : Valid (cap (told k text)) (told k text).head (told k text).len
+  told_valid = standing_valid k text (told k text) (stands_told k text d.accepted)
 
   as_many : cap (told k text) ≡ length before
   as_many = many k text d.accepted ∙ sym d.room
 
-  reads-told : reads k text before ≡ gives 0 0 (told k text).head (told k text).len (told k text).slots
+  reads_told : reads k text before ≡ gives 0 0 (told k text).head (told k text).len (told k text).slots
   unfolding reads
-  reads-told = let few : length before ≤ most = omega (arith, as_many, told-valid.small) in rw (le-ltb most (length before) few, d.accepted, eq-eqb _ _ as_many)
+  reads_told = let few : length before ≤ most = omega (arith, as_many, told_valid.small) in rw (le-ltb most (length before) few, d.accepted, eq-eqb _ _ as_many)
 
-  pub drawn-line : is_line 16 text ≡ true
-  drawn-line = opens-line (kindByte k) text (start k text d.accepted)
+  pub drawn_line : is_line 16 text ≡ true
+  drawn_line = opens_line (kind_byte k) text (start k text d.accepted)
 
-  shown_by : (after : List ℕ) (h n sum : ℕ) (o : Outcome) → o ≡ reads k text before → o.tray ≡ record { head = h; len = n; slots = after } → sum ≡ totalRead k text before
+  shown_by : (after : List ℕ) (h n sum : ℕ) (o : Outcome) → o ≡ reads k text before → o.tray ≡ record { head = h; len = n; slots = after } → sum ≡ total_read k text before
       → Shown k text after h n sum
-  unfolding totalRead
+  unfolding total_read
   shown_by after h n sum o row e es =
-      let v = told-valid in
-      let is : record { head = h; len = n; slots = after } ≡ told k text = sym e ∙ ap (λ (o : Outcome). o.tray) (row ∙ reads-told) in
+      let v = told_valid in
+      let is : record { head = h; len = n; slots = after } ≡ told k text = sym e ∙ ap (λ (o : Outcome). o.tray) (row ∙ reads_told) in
       let eh : h ≡ (told k text).head = ap (λ (t : Tray). t.head) is in
       let en : n ≡ (told k text).len = ap (λ (t : Tray). t.len) is in
       let ec : length after ≡ cap (told k text) = ap (λ (t : Tray). length t.slots) is in
       record {
         is = is;
-        adds = es ∙ ap (λ (o : Outcome). total (list k o.tray)) reads-told;
+        adds = es ∙ ap (λ (o : Outcome). total (list k o.tray)) reads_told;
         small = omega (arith, v.small);
         inside = omega (arith, v.inside);
         fits = omega (arith, v.fits);
       }
 
-pub ring-shown : (text before after : List ℕ) (a : ringAnswer.Answer) → Drawable ring text before → RingRead text before a after
+pub ring_shown : (text before after : List ℕ) (a : ring_answer.Answer) → Drawable ring text before → RingRead text before a after
     → Shown ring text after a.ring.head a.ring.len a.ring.total.sum
-ring-shown text before after a d r = shown_by ring text before d after _ _ _ (rings.seen a after) r.row refl r.total
+ring_shown text before after a d r = shown_by ring text before d after _ _ _ (rings.seen a after) r.row refl r.total
 
-pub vector-shown : (text before after : List ℕ) (a : vectorAnswer.Answer) → Drawable vector text before → VectorRead text before a after
+pub vector_shown : (text before after : List ℕ) (a : vector_answer.Answer) → Drawable vector text before → VectorRead text before a after
     → Shown vector text after 0 a.vector.len a.vector.total.sum
-vector-shown text before after a d r = shown_by vector text before d after _ _ _ (vectors.seen a after) r.row refl r.total
+vector_shown text before after a d r = shown_by vector text before d after _ _ _ (vectors.seen a after) r.row refl r.total
 
 -- the list that is drawn is the one that the text tells; a vector's is a ring's with head 0
-pub ring-list : (text slots : List ℕ) (h n sum : ℕ) → Shown ring text slots h n sum → listIn slots h n ≡ list ring (told ring text)
-ring-list text slots h n sum s = ap (list ring) s.is
+pub ring_list : (text slots : List ℕ) (h n sum : ℕ) → Shown ring text slots h n sum → list_in slots h n ≡ list ring (told ring text)
+ring_list text slots h n sum s = ap (list ring) s.is
 
-pub vector-list : (text slots : List ℕ) (n sum : ℕ) → Shown vector text slots 0 n sum → listIn slots 0 n ≡ list vector (told vector text)
-vector-list text slots n sum s =
-    ext_get_or 0 _ _ (length-entries _ n slots ∙ sym (length-entries itself n slots))
+pub vector_list : (text slots : List ℕ) (n sum : ℕ) → Shown vector text slots 0 n sum → list_in slots 0 n ≡ list vector (told vector text)
+vector_list text slots n sum s =
+    ext_get_or 0 _ _ (length_entries _ n slots ∙ sym (length_entries itself n slots))
     (λ j g.
-    let lt : j < n = (rw (length-entries _ n slots) at g) in
-    let there : slot_of (length slots) 0 j ≡ j = slot-near (length slots) 0 j (omega (arith, s.fits)) ∙ omega arith in
+    let lt : j < n = (rw (length_entries _ n slots) at g) in
+    let there : slot_of (length slots) 0 j ≡ j = slot_near (length slots) 0 j (omega (arith, s.fits)) ∙ omega arith in
     entry _ n slots j lt ∙ ap (λ i. get_or slots i 0) there ∙ sym (entry itself n slots j lt))
     ∙ ap (list vector) s.is
 
@@ -87,19 +87,19 @@ pub none_found : (text : List ℕ) (f : Fault) → f ≡ fault text → f.what �
 none_found text f e ok = sym (ap (λ (f : Fault). f.what) e) ∙ ok
 
 module _ (text : List ℕ) (ok : (fault text).what ≡ 0) where
-  pub none-line : is_line 16 text ≡ true
-  none-line = (parts text ok).line
+  pub none_line : is_line 16 text ≡ true
+  none_line = (parts text ok).line
 
-  pub none-small : (c : ℕ) → c ≡ field 4 4 text → c ≤ 4096
-  none-small c e = omega (arith, (parts text ok).fine.small)
+  pub none_small : (c : ℕ) → c ≡ field 4 4 text → c ≤ 4096
+  none_small c e = omega (arith, (parts text ok).fine.small)
 
   -- the first c of all slots
   module _ (slots : List ℕ) (kind c : ℕ) (ek : kind ≡ field 0 2 text) (ec : c ≡ field 4 4 text) (long : length slots ≡ 4096) where
-    room : length (take (c - 0) slots) ≡ capIn text
-    room = simp length-take (omega (arith, none-small c ec))
+    room : length (take (c - 0) slots) ≡ cap_in text
+    room = simp length-take (omega (arith, none_small c ec))
 
-    pub ring-drawable : kind ≡ 0 → Drawable ring text (take (c - 0) slots)
-    ring-drawable e = record { accepted = none-judged text ring (sym ek ∙ e) ok; room = room }
+    pub ring_drawable : kind ≡ 0 → Drawable ring text (take (c - 0) slots)
+    ring_drawable e = record { accepted = none_judged text ring (sym ek ∙ e) ok; room = room }
 
-    pub vector-drawable : (kind ≡ 0 → ⊥) → Drawable vector text (take (c - 0) slots)
-    vector-drawable other = record { accepted = none-judged text vector (some-kind text ok (λ z. other (ek ∙ z))) ok; room = room }
+    pub vector_drawable : (kind ≡ 0 → ⊥) → Drawable vector text (take (c - 0) slots)
+    vector_drawable other = record { accepted = none_judged text vector (some_kind text ok (λ z. other (ek ∙ z))) ok; room = room }

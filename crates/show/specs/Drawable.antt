@@ -3,11 +3,11 @@ use Rattle.std.specs.Prelude.{ℕ, ◌-◌, ◌≤◌, ◌≡◌, true, List, le
 use Rattle.slots.specs.Layout.{most, Kind}
 use Rattle.slots.specs.Total.{total}
 use Rattle.table.specs.Tray.{list}
-use Rattle.stored.specs.Judge.{told, judge, capIn}
+use Rattle.stored.specs.Judge.{told, judge, cap_in}
 
 pub record Drawable (k : Kind) (text slots : List ℕ) : Type 0 where
   pub accepted : judge k text ≡ true
-  pub room : length slots ≡ capIn text
+  pub room : length slots ≡ cap_in text
 
 -- the first two say all; the others follow from them
 pub record Shown (k : Kind) (text slots : List ℕ) (h n sum : ℕ) : Type 0 where

@@ -1,7 +1,7 @@
 // The first fault of a stored text, in reading order.
 ghost use Rattle.std.specs.Prelude.{◌≡◌, true, ◌+◌, ◌≤◌, ◌^◌, ◌<◌, drop};
 ghost use Rattle.lines.specs.Line.{is_line, field};
-ghost use Rattle.show.specs.Faults.{faultAt, leading, lineFault, headWhat, stateFault, firstFault, slotsFault, fault};
+ghost use Rattle.show.specs.Faults.{fault_at, leading, line_fault, head_what, state_fault, first_fault, slots_fault, fault};
 
 use lines::line_from;
 
@@ -35,7 +35,7 @@ pub(crate) struct Fault {
 }
 
 fn fault_at(line: u64, byte: u64, what: u8) -> Fault
-    ensures { result ≡ faultAt line byte what }
+    ensures { result ≡ fault_at line byte what }
 {
     Fault { line, byte, what }
 }
@@ -63,7 +63,7 @@ fn leading(text: &[u8], at: usize, n: usize) -> usize
 // Of the line of n digits at a place.
 fn line_fault(text: &[u8], at: usize, n: usize, line: u64) -> Fault
     requires { n ≤ 16 }
-    ensures { result ≡ lineFault line n (drop at text.now) }
+    ensures { result ≡ line_fault line n (drop at text.now) }
 {
     let step = line_from(text, at, n);
     let found = step.line;
@@ -87,7 +87,7 @@ pub(crate) fn field_at(text: &[u8], at: usize, n: usize) -> u64
 
 // What is expected of a head; 0 for one that fits.
 fn head_what(kind: u64, cap: u64, head: u64) -> u8
-    ensures { result ≡ headWhat kind cap head }
+    ensures { result ≡ head_what kind cap head }
 {
     if head == 0 {
         return 0;
@@ -106,7 +106,7 @@ fn head_what(kind: u64, cap: u64, head: u64) -> u8
 
 // Of the first line's numbers.
 fn state_fault(kind: u64, form: u64, cap: u64, head: u64, len: u64) -> Fault
-    ensures { result ≡ stateFault kind form cap head len }
+    ensures { result ≡ state_fault kind form cap head len }
 {
     if 1 < kind {
         return fault_at(1, 1, A_KIND);
@@ -130,7 +130,7 @@ fn state_fault(kind: u64, form: u64, cap: u64, head: u64, len: u64) -> Fault
 // Of so many slots' lines from a place on, the first of which is line 2, and of what comes behind them.
 fn slots_fault(text: &[u8], from: usize, count: usize) -> Fault
     requires { count ≤ 65536 }
-    ensures { result ≡ slotsFault 2 count (drop from text.now) }
+    ensures { result ≡ slots_fault 2 count (drop from text.now) }
 {
     let mut left = count;
     let mut at = from;
@@ -155,7 +155,7 @@ fn slots_fault(text: &[u8], from: usize, count: usize) -> Fault
 // The same, with the numbers read.
 fn first_fault(text: &[u8]) -> Fault
     requires { is_line 16 text.now ≡ true }
-    ensures { result ≡ firstFault text.now }
+    ensures { result ≡ first_fault text.now }
 {
     let kind = field_at(text, 0, 2);
     let form = field_at(text, 2, 2);

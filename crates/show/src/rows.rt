@@ -3,7 +3,7 @@ ghost use Rattle.std.specs.Prelude.{◌≡◌, ◌+◌, ◌-◌, ◌≤◌, ◌<
 ghost use Rattle.slots.specs.Layout.{most};
 ghost use Rattle.words.specs.Words.{decimal};
 ghost use Rattle.words.specs.Wrote.{Wrote};
-ghost use Rattle.show.specs.Rows.{spaces, rightIn, largest, width, slotCells, slotRow, heldCell, heldCells, heldRow, posCell, posCells, posRow, entryCell, entryCells, listWord, listRow, listIn};
+ghost use Rattle.show.specs.Rows.{spaces, right_in, largest, width, slot_cells, slot_row, held_cell, held_cells, held_row, pos_cell, pos_cells, pos_row, entry_cell, entry_cells, list_word, list_row, list_in};
 
 use words::{put_decimal, put_text};
 
@@ -29,7 +29,7 @@ fn gap(w: usize, k: usize) -> usize
 // Bytes to the right, in w columns.
 fn put_right(part: &[u8], w: usize, out: &mut [u8], at: usize) -> usize
     requires { at + w + length part.now ≤ length out.old }
-    ensures { Wrote out.old at (rightIn w part.now) result out.new × (result ≤ at + w + length part.now) }
+    ensures { Wrote out.old at (right_in w part.now) result out.new × (result ≤ at + w + length part.now) }
 {
     let end = put_spaces(gap(w, part.len()), out, at);
     put_text(part, out, end)
@@ -38,7 +38,7 @@ fn put_right(part: &[u8], w: usize, out: &mut [u8], at: usize) -> usize
 // A number to the right.
 fn put_number(n: u64, w: usize, out: &mut [u8], at: usize) -> usize
     requires { at + w + 20 ≤ length out.old }
-    ensures { Wrote out.old at (rightIn w (decimal n)) result out.new × (result ≤ at + w + 20) }
+    ensures { Wrote out.old at (right_in w (decimal n)) result out.new × (result ≤ at + w + 20) }
 {
     let mut text = [0u8; 20];
     let k = io::decimal(n, &mut text);
@@ -83,7 +83,7 @@ pub(crate) fn width_of(slots: &[u32]) -> usize
 // The slots' numbers.
 fn put_slot_cells(w: usize, first: usize, last: usize, out: &mut [u8], at: usize) -> usize
     requires { (w ≤ 20) × (first ≤ last) × (last ≤ first + 8) × (at + 360 ≤ length out.old) }
-    ensures { Wrote out.old at (slotCells w first (last - first)) result out.new × (result ≤ at + 360) }
+    ensures { Wrote out.old at (slot_cells w first (last - first)) result out.new × (result ≤ at + 360) }
 {
     let mut i = first;
     let mut end = at;
@@ -96,7 +96,7 @@ fn put_slot_cells(w: usize, first: usize, last: usize, out: &mut [u8], at: usize
 
 pub(crate) fn put_slot_row(w: usize, first: usize, last: usize, out: &mut [u8], at: usize) -> usize
     requires { (w ≤ 20) × (first ≤ last) × (last ≤ first + 8) × (at + 380 ≤ length out.old) }
-    ensures { Wrote out.old at (slotRow w first (last - first)) result out.new × (result ≤ at + 380) }
+    ensures { Wrote out.old at (slot_row w first (last - first)) result out.new × (result ≤ at + 380) }
 {
     let mut end = put_text(b"slot     ", out, at);
     end = put_slot_cells(w, first, last, out, end);
@@ -106,7 +106,7 @@ pub(crate) fn put_slot_row(w: usize, first: usize, last: usize, out: &mut [u8], 
 // What they hold.
 fn put_held_cell(w: usize, x: u64, out: &mut [u8], at: usize) -> usize
     requires { (w ≤ 20) × (at + 45 ≤ length out.old) }
-    ensures { Wrote out.old at (heldCell w x) result out.new × (result ≤ at + 45) }
+    ensures { Wrote out.old at (held_cell w x) result out.new × (result ≤ at + 45) }
 {
     let mut end = put_text(b" [ ", out, at);
     end = put_number(x, w, out, end);
@@ -122,7 +122,7 @@ fn put_held_cells(
     at: usize,
 ) -> usize
     requires { (w ≤ 20) × (first ≤ last) × (last ≤ first + 8) × (last ≤ length slots.now) × (at + 360 ≤ length out.old) }
-    ensures { Wrote out.old at (heldCells w slots.now first (last - first)) result out.new × (result ≤ at + 360) }
+    ensures { Wrote out.old at (held_cells w slots.now first (last - first)) result out.new × (result ≤ at + 360) }
 {
     let mut i = first;
     let mut end = at;
@@ -142,7 +142,7 @@ pub(crate) fn put_held_row(
     at: usize,
 ) -> usize
     requires { (w ≤ 20) × (first ≤ last) × (last ≤ first + 8) × (last ≤ length slots.now) × (at + 380 ≤ length out.old) }
-    ensures { Wrote out.old at (heldRow w slots.now first (last - first)) result out.new × (result ≤ at + 380) }
+    ensures { Wrote out.old at (held_row w slots.now first (last - first)) result out.new × (result ≤ at + 380) }
 {
     let mut end = put_text(b"holds       ", out, at);
     end = put_held_cells(slots, w, first, last, out, end);
@@ -152,7 +152,7 @@ pub(crate) fn put_held_row(
 // Their positions.
 fn put_pos_cell(w: usize, len: usize, p: usize, out: &mut [u8], at: usize) -> usize
     requires { (w ≤ 20) × (at + 45 ≤ length out.old) }
-    ensures { Wrote out.old at (posCell w len p) result out.new × (result ≤ at + 45) }
+    ensures { Wrote out.old at (pos_cell w len p) result out.new × (result ≤ at + 45) }
 {
     if p < len {
         return put_number(p as u64, w + 5, out, at);
@@ -171,7 +171,7 @@ fn put_pos_cells(
     at: usize,
 ) -> usize
     requires { (w ≤ 20) × (first ≤ last) × (last ≤ first + 8) × (last ≤ cap) × (cap ≤ most) × (head ≤ cap) × (at + 360 ≤ length out.old) }
-    ensures { Wrote out.old at (posCells w cap head len first (last - first)) result out.new × (result ≤ at + 360) }
+    ensures { Wrote out.old at (pos_cells w cap head len first (last - first)) result out.new × (result ≤ at + 360) }
 {
     let mut i = first;
     let mut end = at;
@@ -194,7 +194,7 @@ pub(crate) fn put_pos_row(
     at: usize,
 ) -> usize
     requires { (w ≤ 20) × (first ≤ last) × (last ≤ first + 8) × (last ≤ cap) × (cap ≤ most) × (head ≤ cap) × (at + 380 ≤ length out.old) }
-    ensures { Wrote out.old at (posRow w cap head len first (last - first)) result out.new × (result ≤ at + 380) }
+    ensures { Wrote out.old at (pos_row w cap head len first (last - first)) result out.new × (result ≤ at + 380) }
 {
     let mut end = put_text(b"position  ", out, at);
     end = put_pos_cells(cap, head, len, w, first, last, out, end);
@@ -204,7 +204,7 @@ pub(crate) fn put_pos_row(
 // An entry of the list.
 fn put_entry(x: u64, more: bool, out: &mut [u8], at: usize) -> usize
     requires { at + 22 ≤ length out.old }
-    ensures { Wrote out.old at (entryCell x more) result out.new × (result ≤ at + 22) }
+    ensures { Wrote out.old at (entry_cell x more) result out.new × (result ≤ at + 22) }
 {
     let mut end = put_text(b" ", out, at);
     end = put_decimal(x, out, end);
@@ -224,7 +224,7 @@ fn put_entries(
     at: usize,
 ) -> usize
     requires { (length slots.now ≤ most) × (head < length slots.now) × (len ≤ length slots.now) × (first ≤ last) × (last ≤ first + 8) × (last ≤ len) × (at + 176 ≤ length out.old) }
-    ensures { Wrote out.old at (entryCells (listIn slots.now head len) first (last - first)) result out.new × (result ≤ at + 176) }
+    ensures { Wrote out.old at (entry_cells (list_in slots.now head len) first (last - first)) result out.new × (result ≤ at + 176) }
 {
     let mut j = first;
     let mut end = at;
@@ -246,7 +246,7 @@ pub(crate) fn put_list_row(
     at: usize,
 ) -> usize
     requires { (length slots.now ≤ most) × (head < length slots.now) × (len ≤ length slots.now) × (first ≤ last) × (last ≤ first + 8) × (last ≤ len) × (at + 181 ≤ length out.old) }
-    ensures { Wrote out.old at (listRow (listIn slots.now head len) first (last - first)) result out.new × (result ≤ at + 181) }
+    ensures { Wrote out.old at (list_row (list_in slots.now head len) first (last - first)) result out.new × (result ≤ at + 181) }
 {
     let word = put_word(first, out, at);
     let end = put_entries(slots, head, len, first, last, out, word);
@@ -256,7 +256,7 @@ pub(crate) fn put_list_row(
 // The word before the list's first entries; before others its room.
 fn put_word(first: usize, out: &mut [u8], at: usize) -> usize
     requires { at + 4 ≤ length out.old }
-    ensures { Wrote out.old at (listWord first) result out.new × (result ≤ at + 4) }
+    ensures { Wrote out.old at (list_word first) result out.new × (result ≤ at + 4) }
 {
     if first == 0 {
         return put_text(b"list", out, at);

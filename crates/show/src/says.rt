@@ -1,7 +1,7 @@
 // The other lines: a container's own, and that of a fault.
 ghost use Rattle.std.specs.Prelude.{◌+◌, ◌≤◌, length};
 ghost use Rattle.words.specs.Wrote.{Wrote};
-ghost use Rattle.show.specs.Lines.{sized, headed, lenTotal, ringLine, vectorLine, olderLine, olderSaid, expected, place_of, faultLine};
+ghost use Rattle.show.specs.Lines.{sized, headed, len_total, ring_line, vector_line, older_line, older_said, expected, place_of, fault_line};
 
 use super::faults;
 use super::faults::Fault;
@@ -28,7 +28,7 @@ fn put_head(head: u64, out: &mut [u8], at: usize) -> usize
 // A length and a total.
 fn put_len_total(len: u64, total: u64, out: &mut [u8], at: usize) -> usize
     requires { at + 60 ≤ length out.old }
-    ensures { Wrote out.old at (lenTotal len total) result out.new × (result ≤ at + 60) }
+    ensures { Wrote out.old at (len_total len total) result out.new × (result ≤ at + 60) }
 {
     let mut end = put_text(b", length ", out, at);
     end = put_numbered(len, b", total ", out, end);
@@ -44,7 +44,7 @@ pub(crate) fn put_ring(
     at: usize,
 ) -> usize
     requires { at + 130 ≤ length out.old }
-    ensures { Wrote out.old at (ringLine cap head len total) result out.new × (result ≤ at + 130) }
+    ensures { Wrote out.old at (ring_line cap head len total) result out.new × (result ≤ at + 130) }
 {
     let mut end = put_sized(b"ring of ", cap, out, at);
     end = put_head(head, out, end);
@@ -53,7 +53,7 @@ pub(crate) fn put_ring(
 
 pub(crate) fn put_vector(cap: u64, len: u64, total: u64, out: &mut [u8], at: usize) -> usize
     requires { at + 130 ≤ length out.old }
-    ensures { Wrote out.old at (vectorLine cap len total) result out.new × (result ≤ at + 130) }
+    ensures { Wrote out.old at (vector_line cap len total) result out.new × (result ≤ at + 130) }
 {
     let end = put_sized(b"vector of ", cap, out, at);
     put_len_total(len, total, out, end)
@@ -62,7 +62,7 @@ pub(crate) fn put_vector(cap: u64, len: u64, total: u64, out: &mut [u8], at: usi
 // That an older text has another head.
 fn put_older(head: u64, out: &mut [u8], at: usize) -> usize
     requires { at + 60 ≤ length out.old }
-    ensures { Wrote out.old at (olderLine head) result out.new × (result ≤ at + 60) }
+    ensures { Wrote out.old at (older_line head) result out.new × (result ≤ at + 60) }
 {
     let end = put_text(b"older text: its head ", out, at);
     put_numbered(head, b" is read as 0\n", out, end)
@@ -71,7 +71,7 @@ fn put_older(head: u64, out: &mut [u8], at: usize) -> usize
 // The same, where it has another than it is read with.
 pub(crate) fn put_older_said(was: u64, head: u64, out: &mut [u8], at: usize) -> usize
     requires { at + 60 ≤ length out.old }
-    ensures { Wrote out.old at (olderSaid was head) result out.new × (result ≤ at + 60) }
+    ensures { Wrote out.old at (older_said was head) result out.new × (result ≤ at + 60) }
 {
     if was == head {
         return at;
@@ -126,7 +126,7 @@ fn put_place(line: u64, byte: u64, out: &mut [u8], at: usize) -> usize
 
 pub(crate) fn put_fault(f: Fault, out: &mut [u8], at: usize) -> usize
     requires { at + 160 ≤ length out.old }
-    ensures { Wrote out.old at (faultLine f) result out.new × (result ≤ at + 160) }
+    ensures { Wrote out.old at (fault_line f) result out.new × (result ≤ at + 160) }
 {
     let mut end = put_place(f.line, f.byte, out, at);
     end = put_expected(f.what, out, end);

@@ -4,7 +4,7 @@ use Rattle.slots.specs.Layout.{most, itself}
 use Rattle.slots.specs.Shift.{Filled}
 use Rattle.slots.specs.Count.{weigh}
 use Rattle.slots.specs.Total.{total}
-use Rattle.slots.proofs.Counts.{weigh-append}
+use Rattle.slots.proofs.Counts.{weigh_append}
 use Rattle.slots.proofs.Totals.{sum_more}
 
 -- what the high halves of a list's numbers add up to
@@ -21,42 +21,42 @@ parted (x ∷ l) =
     let rest : weigh (λ y. y) l ≡ weigh (λ x. x % 65536) l + weigh (λ x. x / 65536) l * 65536 = parted l in
     omega (arith, rest)
 
-few-lows : (l : List ℕ) → lows l ≤ 65535 * length l
+few_lows : (l : List ℕ) → lows l ≤ 65535 * length l
 unfolding lows
-few-lows [] = omega arith
-few-lows (x ∷ l) = omega (arith, few-lows l)
+few_lows [] = omega arith
+few_lows (x ∷ l) = omega (arith, few_lows l)
 
 -- A loop's first turn, any turn, and its end.
-pub no-highs : highs [] ≡ 0
+pub no_highs : highs [] ≡ 0
 unfolding highs
-no-highs = refl
+no_highs = refl
 
-pub no-wrapped : 0 ≡ total [] % 2 ^ 32
+pub no_wrapped : 0 ≡ total [] % 2 ^ 32
 unfolding total
-no-wrapped = refl
+no_wrapped = refl
 
-pub highs-more : (l : List ℕ) (i high : ℕ) → high ≡ highs (take i l) → i < length l → high + get_or l i 0 / 65536 ≡ highs (take (i + 1) l)
+pub highs_more : (l : List ℕ) (i high : ℕ) → high ≡ highs (take i l) → i < length l → high + get_or l i 0 / 65536 ≡ highs (take (i + 1) l)
 unfolding highs
-highs-more l i high e h = rw (add-one, take-suc l i 0 h, weigh-append) (omega arith)
+highs_more l i high e h = rw (add-one, take-suc l i 0 h, weigh_append) (omega arith)
 
-pub wrapped-more : (l : List ℕ) (i sum : ℕ) → sum ≡ total (take i l) % 2 ^ 32 → i < length l → (sum + get_or l i 0) % 2 ^ 32 ≡ total (take (i + 1) l) % 2 ^ 32
-wrapped-more l i sum e h = omega (arith, e, sum_more l i (total (take i l)) refl h)
+pub wrapped_more : (l : List ℕ) (i sum : ℕ) → sum ≡ total (take i l) % 2 ^ 32 → i < length l → (sum + get_or l i 0) % 2 ^ 32 ≡ total (take (i + 1) l) % 2 ^ 32
+wrapped_more l i sum e h = omega (arith, e, sum_more l i (total (take i l)) refl h)
 
 -- The same where the entries below i are filled already: that at i is still what it was.
 module _ (l s : List ℕ) (i x : ℕ) (m : Filled itself 0 i x l s) (h : i < length l) where
   still : get_or s i 0 ≡ get_or l i 0
   still = m.high i (omega arith) h
 
-  pub filled-highs-more : (high : ℕ) → high ≡ highs (take i l) → high + get_or s i 0 / 65536 ≡ highs (take (i + 1) l)
-  filled-highs-more high e = rw still (highs-more l i high e h)
+  pub filled_highs_more : (high : ℕ) → high ≡ highs (take i l) → high + get_or s i 0 / 65536 ≡ highs (take (i + 1) l)
+  filled_highs_more high e = rw still (highs_more l i high e h)
 
-  pub filled-wrapped-more : (sum r : ℕ) → sum ≡ total (take i l) % 2 ^ 32 → r ≡ (sum + get_or s i 0) % 2 ^ 32 → r ≡ total (take (i + 1) l) % 2 ^ 32
-  filled-wrapped-more sum r e er = er ∙ rw still (wrapped-more l i sum e h)
+  pub filled_wrapped_more : (sum r : ℕ) → sum ≡ total (take i l) % 2 ^ 32 → r ≡ (sum + get_or s i 0) % 2 ^ 32 → r ≡ total (take (i + 1) l) % 2 ^ 32
+  filled_wrapped_more sum r e er = er ∙ rw still (wrapped_more l i sum e h)
 
 -- `low` is the sum less the high halves' part of it, modulo 2 to the 32nd
-pub by-halves : (l : List ℕ) (i sum high low : ℕ) → sum ≡ total (take i l) % 2 ^ 32 → high ≡ highs (take i l) → length l ≤ i → length l ≤ most
+pub by_halves : (l : List ℕ) (i sum high low : ℕ) → sum ≡ total (take i l) % 2 ^ 32 → high ≡ highs (take i l) → length l ≤ i → length l ≤ most
     → (low + high % 65536 * 65536) % 2 ^ 32 ≡ sum → low < 2 ^ 32 → low + high * 65536 ≡ total l
-by-halves l i sum high low e eh all fits part small =
+by_halves l i sum high low e eh all fits part small =
     let sum_is : sum ≡ total l % 2 ^ 32 = e ∙ ap (λ l. total l % 2 ^ 32) (take_all i l all) in
     let high_is : high ≡ highs l = eh ∙ ap highs (take_all i l all) in
-    omega (arith, sum_is, high_is, part, small, parted l, few-lows l)
+    omega (arith, sum_is, high_is, part, small, parted l, few_lows l)

@@ -3,16 +3,16 @@ use Rattle.std.proofs.Common.{◌≡◌, sym, ◌∙◌}
 use contract.Lifetimes.{Lfts}
 use Rattle.slots.proofs.Twice.{Twice}
 use Rattle.slots.proofs.slot as slot·fn
-use Rattle.slots.proofs.one_on as one-on·fn
-use Rattle.slots.proofs.one_back as one-back·fn
+use Rattle.slots.proofs.one_on as one_on·fn
+use Rattle.slots.proofs.one_back as one_back·fn
 
 -- a are the arguments, r and r' are results, and e and e' the arguments as they are at the return
 module _ (κs : Lfts 0) where
-  pub slot-once : Twice slot·fn.ended κs (slot·fn.Reads.Learnt κs) (λ r e r' e'. r ≡ r')
-  slot-once a r r' e e' p q = p.0 ∙ sym q.0
+  pub slot_once : Twice slot·fn.ended κs (slot·fn.Reads.Learnt κs) (λ r e r' e'. r ≡ r')
+  slot_once a r r' e e' p q = p.0 ∙ sym q.0
 
-  pub one-on-once : Twice one-on·fn.ended κs (one-on·fn.Reads.Learnt κs) (λ r e r' e'. r ≡ r')
-  one-on-once a r r' e e' p q = p.0 ∙ sym q.0
+  pub one_on_once : Twice one_on·fn.ended κs (one_on·fn.Reads.Learnt κs) (λ r e r' e'. r ≡ r')
+  one_on_once a r r' e e' p q = p.0 ∙ sym q.0
 
-  pub one-back-once : Twice one-back·fn.ended κs (one-back·fn.Reads.Learnt κs) (λ r e r' e'. r ≡ r')
-  one-back-once a r r' e e' p q = p.0 ∙ sym q.0
+  pub one_back_once : Twice one_back·fn.ended κs (one_back·fn.Reads.Learnt κs) (λ r e r' e'. r ≡ r')
+  one_back_once a r r' e e' p q = p.0 ∙ sym q.0

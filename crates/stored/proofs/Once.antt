@@ -5,16 +5,16 @@ use Prim.Native.Nat.{ℕ}
 use contract.Lifetimes.{Lfts}
 use Rattle.slots.proofs.Twice.{Twice}
 use Rattle.runs.specs.declared.total.Total.{Total}
-use Rattle.ring.specs.declared.Answer as ringAnswer
+use Rattle.ring.specs.declared.Answer as ring_answer
 use Rattle.ring.specs.Seen as rings
-use Rattle.vector.specs.declared.Answer as vectorAnswer
+use Rattle.vector.specs.declared.Answer as vector_answer
 use Rattle.vector.specs.Seen as vectors
 use Rattle.stored.specs.Written.{Written}
-use Rattle.stored.specs.Seen.{seenRing, seenVector}
-use Rattle.stored.specs.contracts.ring_text as ring-text·fn
-use Rattle.stored.proofs.ring_text.Reads as ring-text·reads
-use Rattle.stored.specs.contracts.vector_text as vector-text·fn
-use Rattle.stored.proofs.vector_text.Reads as vector-text·reads
+use Rattle.stored.specs.Seen.{seen_ring, seen_vector}
+use Rattle.stored.specs.contracts.ring_text as ring_text·fn
+use Rattle.stored.proofs.ring_text.Reads as ring_text·reads
+use Rattle.stored.specs.contracts.vector_text as vector_text·fn
+use Rattle.stored.proofs.vector_text.Reads as vector_text·reads
 
 -- `read` gives the answer back from what is seen of it and from what is not, the slot that it reports and the total
 one : {A B : Type 0} (seen : A → List ℕ → Written) (beside : A → B) (read : Written → B → A) → ((a : A) (text : List ℕ) → read (seen a text) (beside a) ≡ a)
@@ -25,8 +25,8 @@ one seen beside read back kept w b a a' text text' p q x y = (
   sym (kept a text) ∙ ap (λ (w : Written). w.text) (p ∙ sym q) ∙ kept a' text',
 )
 
-abbrev ringBack : Written → ℕ × Total → ringAnswer.Answer
-ringBack w b = record {
+abbrev ring_back : Written → ℕ × Total → ring_answer.Answer
+ring_back w b = record {
   number = w.outcome.number;
   value = w.outcome.value;
   moves = w.outcome.moves;
@@ -34,8 +34,8 @@ ringBack w b = record {
   ring = rings.state w.outcome.tray.head w.outcome.tray.len b.1;
 }
 
-abbrev vectorBack : Written → ℕ × Total → vectorAnswer.Answer
-vectorBack w b = record {
+abbrev vector_back : Written → ℕ × Total → vector_answer.Answer
+vector_back w b = record {
   number = w.outcome.number;
   value = w.outcome.value;
   moves = w.outcome.moves;
@@ -44,12 +44,12 @@ vectorBack w b = record {
 }
 
 module _ (κs : Lfts 2) where
-  pub ring-text-once : Twice ring-text·fn.ended κs (ring-text·reads.Learnt κs) (λ r e r' e'. (r ≡ r') × (e.1.1.0.now ≡ e'.1.1.0.now))
-  ring-text-once a r r' e e' p q =
-      one {B = ℕ × Total} (λ r text. seenRing r a.1.0.now text) (λ r. (r.slot, r.ring.total)) ringBack (λ r text. refl) (λ r text. refl)
+  pub ring_text_once : Twice ring_text·fn.ended κs (ring_text·reads.Learnt κs) (λ r e r' e'. (r ≡ r') × (e.1.1.0.now ≡ e'.1.1.0.now))
+  ring_text_once a r r' e e' p q =
+      one {B = ℕ × Total} (λ r text. seen_ring r a.1.0.now text) (λ r. (r.slot, r.ring.total)) ring_back (λ r text. refl) (λ r text. refl)
       _ _ r r' _ _ p.row q.row (ap₂ (λ n t. (n, t)) p.slot p.total) (ap₂ (λ n t. (n, t)) q.slot q.total)
 
-  pub vector-text-once : Twice vector-text·fn.ended κs (vector-text·reads.Learnt κs) (λ r e r' e'. (r ≡ r') × (e.1.1.0.now ≡ e'.1.1.0.now))
-  vector-text-once a r r' e e' p q =
-      one {B = ℕ × Total} (λ r text. seenVector r a.1.0.now text) (λ r. (r.slot, r.vector.total)) vectorBack (λ r text. refl) (λ r text. refl)
+  pub vector_text_once : Twice vector_text·fn.ended κs (vector_text·reads.Learnt κs) (λ r e r' e'. (r ≡ r') × (e.1.1.0.now ≡ e'.1.1.0.now))
+  vector_text_once a r r' e e' p q =
+      one {B = ℕ × Total} (λ r text. seen_vector r a.1.0.now text) (λ r. (r.slot, r.vector.total)) vector_back (λ r text. refl) (λ r text. refl)
       _ _ r r' _ _ p.row q.row (ap₂ (λ n t. (n, t)) p.slot p.total) (ap₂ (λ n t. (n, t)) q.slot q.total)

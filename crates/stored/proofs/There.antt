@@ -16,21 +16,21 @@ use Rattle.table.specs.Tray.{Tray, cap, list, valid}
 use Rattle.table.specs.Does.{Outcome}
 use Rattle.table.proofs.Laws.Refusals.{either, above_zero}
 use Rattle.digits.specs.Put.{put}
-use Rattle.digits.proofs.Puts.{put-read}
+use Rattle.digits.proofs.Puts.{put_read}
 use Rattle.ring.specs.Seen as rings
 use Rattle.vector.specs.Seen as vectors
-use Rattle.stored.specs.Form.{headIn, form, size}
-use Rattle.stored.specs.Written.{Written, refusalsText, writes}
+use Rattle.stored.specs.Form.{head_in, form, size}
+use Rattle.stored.specs.Written.{Written, refusals_text, writes}
 use Rattle.stored.specs.Acceptable.{Words, Sound}
-use Rattle.stored.specs.Reads.{reads, totalRead}
-use Rattle.stored.proofs.Lines.{length-form}
+use Rattle.stored.specs.Reads.{reads, total_read}
+use Rattle.stored.proofs.Lines.{length_form}
 use Rattle.stored.proofs.Writes.{refusing, telling}
 use Rattle.stored.proofs.Given.{given}
-use Rattle.stored.proofs.Trip.{read-written, total-written, write_read}
-use Rattle.stored.specs.contracts.ring_text as ring-text·fn
-use Rattle.stored.proofs.ring_text.Reads as ring-text·reads
-use Rattle.stored.specs.contracts.vector_text as vector-text·fn
-use Rattle.stored.proofs.vector_text.Reads as vector-text·reads
+use Rattle.stored.proofs.Trip.{read_written, total_written, write_read}
+use Rattle.stored.specs.contracts.ring_text as ring_text·fn
+use Rattle.stored.proofs.ring_text.Reads as ring_text·reads
+use Rattle.stored.specs.contracts.vector_text as vector_text·fn
+use Rattle.stored.proofs.vector_text.Reads as vector_text·reads
 use Rattle.stored.proofs.readers as readers
 
 -- a text that was written, and the room that it had
@@ -42,12 +42,12 @@ pub record Wrote (k : Kind) (t : Tray) (text : List ℕ) (w : Written) : Type 0 
 wrote : (k : Kind) (t : Tray) (text : List ℕ) → (writes k t text).outcome.number ≡ 0 → Wrote k t text (writes k t text)
 unfolding writes
 wrote k t text =
-    either (λ (w : Written). w.outcome.number ≡ 0 → Wrote k t text w) (λ m. refusing t m text) (refusalsText k t text) (telling t (size (cap t)) (put text 0 (form k t)))
+    either (λ (w : Written). w.outcome.number ≡ 0 → Wrote k t text w) (λ m. refusing t m text) (refusals_text k t text) (telling t (size (cap t)) (put text 0 (form k t)))
     (λ r e. absurd (omega (arith, above_zero r)))
     (λ clear e. record { fine = not-false _ clear.0; room = ltb-false _ _ clear.1.0; bytes = refl })
 
 -- READ BACK: the bytes that were written, in slots as many as the container has
-module _ (k : Kind) (t : Tray) (headed : t.head ≡ headIn k t.head) (words : Words t.slots) (text after bytes slots : List ℕ)
+module _ (k : Kind) (t : Tray) (headed : t.head ≡ head_in k t.head) (words : Words t.slots) (text after bytes slots : List ℕ)
     (done : (writes k t text).outcome.number ≡ 0) (left : after ≡ (writes k t text).text) (these : bytes ≡ take (size (cap t)) after) (same : cap t ≡ length slots) where
   sound : Sound k t
   sound = record { fine = (wrote k t text done).fine; headed = headed; words = words }
@@ -55,24 +55,24 @@ module _ (k : Kind) (t : Tray) (headed : t.head ≡ headIn k t.head) (words : Wo
   formed : bytes ≡ form k t
   formed =
       let w = wrote k t text done in
-      let long = length-form k t in
-      these ∙ ap (take (size (cap t))) (left ∙ w.bytes) ∙ ap (λ n. take n (put text 0 (form k t))) (sym long) ∙ put-read text (form k t) (omega (arith, w.room))
+      let long = length_form k t in
+      these ∙ ap (take (size (cap t))) (left ∙ w.bytes) ∙ ap (λ n. take n (put text 0 (form k t))) (sym long) ∙ put_read text (form k t) (omega (arith, w.room))
 
   pub back : reads k bytes slots ≡ given t
-  back = ap (λ b. reads k b slots) formed ∙ read-written k t slots sound same
+  back = ap (λ b. reads k b slots) formed ∙ read_written k t slots sound same
 
-  pub back_total : totalRead k bytes slots ≡ total (list k t)
-  back_total = ap (λ b. totalRead k b slots) formed ∙ total-written k t slots sound same
+  pub back_total : total_read k bytes slots ≡ total (list k t)
+  back_total = ap (λ b. total_read k b slots) formed ∙ total_written k t slots sound same
 
 -- In what follows a are the arguments of the writer, r is its result and e the arguments as they are at the return; b, s and f those of the reader.
 module _ (κs κs2 : Lfts 2) where
-  pub ring-there-and-back : (a : ArgsD ring-text·fn.signature κs) (r : ResD ring-text·fn.signature κs) (e : AtExit ring-text·fn.ended κs)
+  pub ring_there_and_back : (a : ArgsD ring_text·fn.signature κs) (r : ResD ring_text·fn.signature κs) (e : AtExit ring_text·fn.ended κs)
       (b : ArgsD readers.ring_read.signature κs2) (s : ResD readers.ring_read.signature κs2) (f : AtExit readers.ring_read.ended κs2)
-      → ring-text·reads.Learnt κs a r e → readers.ring_read.Reads.Learnt κs2 b s f → r.number ≡ 0 → Words a.1.0.now
+      → ring_text·reads.Learnt κs a r e → readers.ring_read.Reads.Learnt κs2 b s f → r.number ≡ 0 → Words a.1.0.now
       → b.0.now ≡ take (size (length a.1.0.now)) e.1.1.0.now → length a.1.0.now ≡ length b.1.0.now
       → (s.number ≡ 0) × (s.ring.head ≡ a.0.head) × (s.ring.len ≡ a.0.len) × (f.1.0.now ≡ a.1.0.now)
       × (s.ring.total.sum ≡ total (list ring (rings.tray a.0 a.1.0.now)))
-  ring-there-and-back a r e b s f p q done words these same =
+  ring_there_and_back a r e b s f p q done words these same =
       let t : Tray = rings.tray a.0 a.1.0.now in
       let ok : (writes ring t a.1.1.0.now).outcome.number ≡ 0 = sym (ap (λ (w : Written). w.outcome.number) p.row) ∙ done in
       let left = ap (λ (w : Written). w.text) p.row in
@@ -84,12 +84,12 @@ module _ (κs κs2 : Lfts 2) where
         q.total ∙ back_total ring t refl words a.1.1.0.now e.1.1.0.now b.0.now b.1.0.now ok left these same,
       )
 
-  pub vector-there-and-back : (a : ArgsD vector-text·fn.signature κs) (r : ResD vector-text·fn.signature κs) (e : AtExit vector-text·fn.ended κs)
+  pub vector_there_and_back : (a : ArgsD vector_text·fn.signature κs) (r : ResD vector_text·fn.signature κs) (e : AtExit vector_text·fn.ended κs)
       (b : ArgsD readers.vector_read.signature κs2) (s : ResD readers.vector_read.signature κs2) (f : AtExit readers.vector_read.ended κs2)
-      → vector-text·reads.Learnt κs a r e → readers.vector_read.Reads.Learnt κs2 b s f → r.number ≡ 0 → Words a.1.0.now
+      → vector_text·reads.Learnt κs a r e → readers.vector_read.Reads.Learnt κs2 b s f → r.number ≡ 0 → Words a.1.0.now
       → b.0.now ≡ take (size (length a.1.0.now)) e.1.1.0.now → length a.1.0.now ≡ length b.1.0.now
       → (s.number ≡ 0) × (s.vector.len ≡ a.0.len) × (f.1.0.now ≡ a.1.0.now) × (s.vector.total.sum ≡ total (list vector (vectors.tray a.0 a.1.0.now)))
-  vector-there-and-back a r e b s f p q done words these same =
+  vector_there_and_back a r e b s f p q done words these same =
       let t : Tray = vectors.tray a.0 a.1.0.now in
       let ok : (writes vector t a.1.1.0.now).outcome.number ≡ 0 = sym (ap (λ (w : Written). w.outcome.number) p.row) ∙ done in
       let left = ap (λ (w : Written). w.text) p.row in
@@ -101,22 +101,22 @@ module _ (κs κs2 : Lfts 2) where
       )
 
   -- WRITTEN AGAIN: the container that was read of a text that some sound container has, into any text with room
-  pub ring-back-and-there : (b : ArgsD readers.ring_read.signature κs2) (s : ResD readers.ring_read.signature κs2) (f : AtExit readers.ring_read.ended κs2)
-      (a : ArgsD ring-text·fn.signature κs) (r : ResD ring-text·fn.signature κs) (e : AtExit ring-text·fn.ended κs)
-      → readers.ring_read.Reads.Learnt κs2 b s f → ring-text·reads.Learnt κs a r e → (t : Tray) → Sound ring t → b.0.now ≡ form ring t → cap t ≡ length b.1.0.now
+  pub ring_back_and_there : (b : ArgsD readers.ring_read.signature κs2) (s : ResD readers.ring_read.signature κs2) (f : AtExit readers.ring_read.ended κs2)
+      (a : ArgsD ring_text·fn.signature κs) (r : ResD ring_text·fn.signature κs) (e : AtExit ring_text·fn.ended κs)
+      → readers.ring_read.Reads.Learnt κs2 b s f → ring_text·reads.Learnt κs a r e → (t : Tray) → Sound ring t → b.0.now ≡ form ring t → cap t ≡ length b.1.0.now
       → a.0 ≡ s.ring → a.1.0.now ≡ f.1.0.now → length b.0.now ≤ length a.1.1.0.now → e.1.1.0.now ≡ put a.1.1.0.now 0 b.0.now
-  ring-back-and-there b s f a r e q p t sound is same state slots room =
+  ring_back_and_there b s f a r e q p t sound is same state slots room =
       let tray : rings.tray a.0 a.1.0.now ≡ (reads ring b.0.now b.1.0.now).tray =
       ap (λ r. rings.tray r a.1.0.now) state ∙ ap (rings.tray s.ring) slots ∙ ap (λ (o : Outcome). o.tray) q.row in
       ap (λ (w : Written). w.text) p.row
       ∙ ap (λ t. (writes ring t a.1.1.0.now).text) tray
       ∙ write_read ring t b.0.now b.1.0.now a.1.1.0.now sound is same room
 
-  pub vector-back-and-there : (b : ArgsD readers.vector_read.signature κs2) (s : ResD readers.vector_read.signature κs2) (f : AtExit readers.vector_read.ended κs2)
-      (a : ArgsD vector-text·fn.signature κs) (r : ResD vector-text·fn.signature κs) (e : AtExit vector-text·fn.ended κs)
-      → readers.vector_read.Reads.Learnt κs2 b s f → vector-text·reads.Learnt κs a r e → (t : Tray) → Sound vector t → b.0.now ≡ form vector t → cap t ≡ length b.1.0.now
+  pub vector_back_and_there : (b : ArgsD readers.vector_read.signature κs2) (s : ResD readers.vector_read.signature κs2) (f : AtExit readers.vector_read.ended κs2)
+      (a : ArgsD vector_text·fn.signature κs) (r : ResD vector_text·fn.signature κs) (e : AtExit vector_text·fn.ended κs)
+      → readers.vector_read.Reads.Learnt κs2 b s f → vector_text·reads.Learnt κs a r e → (t : Tray) → Sound vector t → b.0.now ≡ form vector t → cap t ≡ length b.1.0.now
       → a.0 ≡ s.vector → a.1.0.now ≡ f.1.0.now → length b.0.now ≤ length a.1.1.0.now → e.1.1.0.now ≡ put a.1.1.0.now 0 b.0.now
-  vector-back-and-there b s f a r e q p t sound is same state slots room =
+  vector_back_and_there b s f a r e q p t sound is same state slots room =
       let tray : vectors.tray a.0 a.1.0.now ≡ (reads vector b.0.now b.1.0.now).tray =
       ap (λ v. vectors.tray v a.1.0.now) state ∙ ap (vectors.tray s.vector) slots ∙ ap (λ (o : Outcome). o.tray) q.row in
       ap (λ (w : Written). w.text) p.row

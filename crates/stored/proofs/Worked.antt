@@ -7,7 +7,7 @@ use Rattle.table.specs.Tray.{Tray, valid, nowhere}
 use Rattle.table.specs.Does.{gives, refused}
 use Rattle.digits.specs.Hex.{hex}
 use Rattle.digits.specs.Put.{put}
-use Rattle.stored.specs.Form.{stateDigits, firstLine, slotLine, slotLines, form}
+use Rattle.stored.specs.Form.{state_digits, first_line, slot_line, slot_lines, form}
 use Rattle.stored.specs.Written.{Written, writes}
 
 -- capacity 4, head 2, list 9, 10, 11
@@ -23,15 +23,15 @@ text =
     (zeros ++ (52 ∷ 48 ∷ 48 ∷ 48 ∷ 50 ∷ 48 ∷ 48 ∷ 48 ∷ 51 ∷ 10 ∷ []))
     ++ ((zeros ++ (98 ∷ 10 ∷ [])) ++ ((zeros ++ (48 ∷ 10 ∷ [])) ++ ((zeros ++ (57 ∷ 10 ∷ [])) ++ (zeros ++ (97 ∷ 10 ∷ [])))))
 
-pub ring-form : form ring W ≡ text
-unfolding form firstLine stateDigits slotLine slotLines hex
-ring-form = refl
+pub ring_form : form ring W ≡ text
+unfolding form first_line state_digits slot_line slot_lines hex
+ring_form = refl
 
 -- a vector has kind 01, and its largest entry is eight times f
-pub vector-form : form vector (record { head = 0; len = 1; slots = 4294967295 ∷ [] })
+pub vector_form : form vector (record { head = 0; len = 1; slots = 4294967295 ∷ [] })
     ≡ 48 ∷ 49 ∷ 48 ∷ 48 ∷ 48 ∷ 48 ∷ 48 ∷ 49 ∷ 48 ∷ 48 ∷ 48 ∷ 48 ∷ 48 ∷ 48 ∷ 48 ∷ 49 ∷ 10 ∷ 102 ∷ 102 ∷ 102 ∷ 102 ∷ 102 ∷ 102 ∷ 102 ∷ 102 ∷ 10 ∷ []
-unfolding form firstLine stateDigits slotLine slotLines hex
-vector-form = refl
+unfolding form first_line state_digits slot_line slot_lines hex
+vector_form = refl
 
 -- on no slots: the first line only; the byte after it stays; one byte less is too short; a head that is no slot is refused first
 abbrev none : Tray
@@ -49,5 +49,5 @@ answers number t text = record { outcome = refused t nowhere number; text = text
 pub short : (writes ring none (blank ++ (17 ∷ 18 ∷ [])) ≡ written 17 none (zeros ++ (zeros ++ (48 ∷ 48 ∷ 10 ∷ 18 ∷ []))))
     × (writes ring none blank ≡ answers 6 none blank)
     × (writes ring (record { head = 1; len = 0; slots = [] }) [] ≡ answers 1 (record { head = 1; len = 0; slots = [] }) [])
-unfolding writes valid form firstLine stateDigits slotLine slotLines hex put
+unfolding writes valid form first_line state_digits slot_line slot_lines hex put
 short = (refl, refl, refl)

@@ -3,7 +3,7 @@ use Rattle.std.specs.Prelude.{◌≡◌, Bool, true, false, List, ℕ, ◌^◌, 
 use Rattle.slots.specs.Layout.{most, Kind, ring}
 use Rattle.table.specs.Tray.{Tray, cap, valid}
 use Rattle.table.specs.Does.{bare}
-use Rattle.stored.specs.Form.{headIn, form}
+use Rattle.stored.specs.Form.{head_in, form}
 
 -- the slots hold unsigned 32-bit numbers
 abbrev pub Words : List ℕ → Type 0
@@ -12,7 +12,7 @@ Words slots = (i : ℕ) → get_or slots i 0 < 2 ^ 32
 -- a valid container as the code can have one; a vector has no head, and 0 stands there
 pub record Sound (k : Kind) (t : Tray) : Type 0 where
   pub fine : valid k (cap t) t.head t.len ≡ true
-  pub headed : t.head ≡ headIn k t.head
+  pub headed : t.head ≡ head_in k t.head
   pub words : Words t.slots
 
 -- an empty ring with a head between 1 and c − 1, as older texts have it

@@ -5,32 +5,32 @@ use Rattle.table.specs.Tray.{Tray, cap}
 use Rattle.digits.specs.Hex.{hex, lf}
 
 -- 00 is a ring, 01 a vector
-abbrev pub kindByte : Kind → ℕ
-kindByte ring = 0
-kindByte vector = 1
+abbrev pub kind_byte : Kind → ℕ
+kind_byte ring = 0
+kind_byte vector = 1
 
 -- the head of a vector is 0
-abbrev pub headIn : Kind → ℕ → ℕ
-headIn ring h = h
-headIn vector h = 0
+abbrev pub head_in : Kind → ℕ → ℕ
+head_in ring h = h
+head_in vector h = 0
 
 -- first line: kind, 00, capacity, head, length, as 1, 1, 2, 2, 2 bytes
-unfoldable pub stateDigits : (c h n : ℕ) → List ℕ
-stateDigits c h n = hex 4 c ++ (hex 4 h ++ (hex 4 n ++ (lf ∷ [])))
+unfoldable pub state_digits : (c h n : ℕ) → List ℕ
+state_digits c h n = hex 4 c ++ (hex 4 h ++ (hex 4 n ++ (lf ∷ [])))
 
-unfoldable pub firstLine : (kind c h n : ℕ) → List ℕ
-firstLine kind c h n = hex 2 kind ++ (hex 2 0 ++ stateDigits c h n)
+unfoldable pub first_line : (kind c h n : ℕ) → List ℕ
+first_line kind c h n = hex 2 kind ++ (hex 2 0 ++ state_digits c h n)
 
 -- then one line of 8 digits for each slot, in slot order
-unfoldable pub slotLine : (x : ℕ) → List ℕ
-slotLine x = hex 8 x ++ (lf ∷ [])
+unfoldable pub slot_line : (x : ℕ) → List ℕ
+slot_line x = hex 8 x ++ (lf ∷ [])
 
-unfoldable pub slotLines : (slots : List ℕ) → List ℕ
-slotLines [] = []
-slotLines (x ∷ slots) = slotLine x ++ slotLines slots
+unfoldable pub slot_lines : (slots : List ℕ) → List ℕ
+slot_lines [] = []
+slot_lines (x ∷ slots) = slot_line x ++ slot_lines slots
 
 unfoldable pub form : Kind → Tray → List ℕ
-form k t = firstLine (kindByte k) (cap t) (headIn k t.head) t.len ++ slotLines t.slots
+form k t = first_line (kind_byte k) (cap t) (head_in k t.head) t.len ++ slot_lines t.slots
 
 -- the text takes 17 + 9c bytes
 abbrev pub size : (c : ℕ) → ℕ

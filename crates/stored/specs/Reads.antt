@@ -7,9 +7,9 @@ use Rattle.table.specs.Calls.{alike}
 use Rattle.table.specs.Does.{Outcome, refused, gives, bare}
 use Rattle.table.specs.Reported.{no_slot}
 use Rattle.table.specs.Promise.{Arrival}
-use Rattle.ring.specs.declared.Answer as ringAnswer
+use Rattle.ring.specs.declared.Answer as ring_answer
 use Rattle.ring.specs.Seen as rings
-use Rattle.vector.specs.declared.Answer as vectorAnswer
+use Rattle.vector.specs.declared.Answer as vector_answer
 use Rattle.vector.specs.Seen as vectors
 use Rattle.stored.specs.Judge.{told, judge}
 
@@ -21,19 +21,19 @@ reads k text slots =
     (gives 0 0 (told k text).head (told k text).len (told k text).slots)))
 
 -- the total is the sum of the entries
-unfoldable pub totalRead : Kind → (text slots : List ℕ) → ℕ
-totalRead k text slots = total (list k (reads k text slots).tray)
+unfoldable pub total_read : Kind → (text slots : List ℕ) → ℕ
+total_read k text slots = total (list k (reads k text slots).tray)
 
 -- The promise of a reader on slots that held `before`: its answer and every slot afterwards are what `reads` says; it reports no slot.
-pub record RingRead (text before : List ℕ) (a : ringAnswer.Answer) (after : List ℕ) : Type 0 where
+pub record RingRead (text before : List ℕ) (a : ring_answer.Answer) (after : List ℕ) : Type 0 where
   pub row : rings.seen a after ≡ reads ring text before
   pub slot : a.slot ≡ no_slot
-  pub total : a.ring.total.sum ≡ totalRead ring text before
+  pub total : a.ring.total.sum ≡ total_read ring text before
 
-pub record VectorRead (text before : List ℕ) (a : vectorAnswer.Answer) (after : List ℕ) : Type 0 where
+pub record VectorRead (text before : List ℕ) (a : vector_answer.Answer) (after : List ℕ) : Type 0 where
   pub row : vectors.seen a after ≡ reads vector text before
   pub slot : a.slot ≡ no_slot
-  pub total : a.vector.total.sum ≡ totalRead vector text before
+  pub total : a.vector.total.sum ≡ total_read vector text before
 
 -- A reading as demand 3 takes it: a container's one making, and the entries that the text tells enter.
 abbrev pub reading : Kind → (text : List ℕ) → Arrival

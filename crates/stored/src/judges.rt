@@ -1,7 +1,7 @@
 // Whether a text is acceptable: its first line, its state, and a line for each slot, all of it before anything is stored.
 ghost use Rattle.std.specs.Prelude.{◌≡◌, ◌<◌, drop};
 ghost use Rattle.slots.specs.Layout.{ring, vector};
-ghost use Rattle.stored.specs.Judge.{areLines, isOlder, stands, judgeBy};
+ghost use Rattle.stored.specs.Judge.{are_lines, is_older, stands, judge_by};
 ghost use Rattle.stored.specs.First.{first_of, begins, judged};
 
 use lines::line_from;
@@ -60,7 +60,7 @@ fn begins(f: First, kind: usize, size: usize) -> bool
 
 // Whether the state is an empty ring's with a head below the capacity, as older texts have it.
 fn is_older(cap: usize, head: usize, len: usize) -> bool
-    ensures { result ≡ isOlder cap head len }
+    ensures { result ≡ is_older cap head len }
 {
     (len == 0) & ((head < cap) & (cap <= slots::MOST))
 }
@@ -87,7 +87,7 @@ fn vector_stands(cap: usize, head: usize, len: usize) -> bool
 
 // Whether so many slot lines stand in the text from a place on.
 fn are_lines(text: &[u8], from: usize, count: usize) -> bool
-    ensures { result ≡ areLines count (drop from text.now) }
+    ensures { result ≡ are_lines count (drop from text.now) }
 {
     let mut left = count;
     let mut at = from;
@@ -136,7 +136,7 @@ pub(crate) fn vector_judged(text: &[u8]) -> Judged
 
 // The same by a kind number: 0 is a ring, 1 a vector, and any other a no.
 pub fn check(text: &[u8], kind: u64) -> bool
-    ensures { result ≡ judgeBy kind text.now }
+    ensures { result ≡ judge_by kind text.now }
 {
     if kind == 0 {
         let judged = ring_judged(text);

@@ -4,7 +4,7 @@ pub mod readers; // readers.rt: a text read back
 
 ghost use Rattle.std.specs.Prelude.{◌≡◌, ◌+◌, ◌*◌, ◌≤◌, length};
 ghost use Rattle.digits.specs.Put.{put};
-ghost use Rattle.stored.specs.Form.{firstLine, stateDigits, slotLine, slotLines};
+ghost use Rattle.stored.specs.Form.{first_line, state_digits, slot_line, slot_lines};
 ghost use Rattle.stored.specs.Seen.{RingStored, VectorStored};
 
 use ring::Ring;
@@ -13,7 +13,7 @@ use vector::Vector;
 // The end of the first line: a capacity, a head and a length.
 fn put_state(text: &mut [u8], cap: usize, head: usize, len: usize)
     requires { 17 ≤ length text.old }
-    ensures { text.new ≡ put text.old 4 (stateDigits cap head len) }
+    ensures { text.new ≡ put text.old 4 (state_digits cap head len) }
 {
     digits::put_hex(text, 4, 4, cap as u64);
     digits::put_hex(text, 8, 4, head as u64);
@@ -24,7 +24,7 @@ fn put_state(text: &mut [u8], cap: usize, head: usize, len: usize)
 // The first line, of a kind, a capacity, a head and a length.
 fn put_first(text: &mut [u8], kind: u64, cap: usize, head: usize, len: usize)
     requires { 17 ≤ length text.old }
-    ensures { text.new ≡ put text.old 0 (firstLine kind cap head len) }
+    ensures { text.new ≡ put text.old 0 (first_line kind cap head len) }
 {
     digits::put_hex(text, 0, 2, kind);
     digits::put_hex(text, 2, 2, 0);
@@ -34,7 +34,7 @@ fn put_first(text: &mut [u8], kind: u64, cap: usize, head: usize, len: usize)
 // A slot's line, from a place on.
 fn put_line(text: &mut [u8], at: usize, x: u32)
     requires { at + 9 ≤ length text.old }
-    ensures { text.new ≡ put text.old at (slotLine x) }
+    ensures { text.new ≡ put text.old at (slot_line x) }
 {
     digits::put_hex(text, at, 8, x as u64);
     text[at + 8] = 10;
@@ -43,7 +43,7 @@ fn put_line(text: &mut [u8], at: usize, x: u32)
 // A line for each slot, from a place on.
 fn put_slots(text: &mut [u8], from: usize, slots: &[u32])
     requires { from + 9 * length slots.now ≤ length text.old }
-    ensures { text.new ≡ put text.old from (slotLines slots.now) }
+    ensures { text.new ≡ put text.old from (slot_lines slots.now) }
 {
     let mut i = 0;
     let mut at = from;

@@ -2,8 +2,8 @@
 ghost use Rattle.std.specs.Prelude.{◌≡◌, true, ◌+◌, ◌-◌, ◌*◌, ◌≤◌, length, drop};
 ghost use Rattle.slots.specs.Layout.{most, slot_of, entries, ring};
 ghost use Rattle.slots.specs.Total.{total};
-ghost use Rattle.table.specs.Does.{headAfter};
-ghost use Rattle.stored.specs.Judge.{areLines, numbers};
+ghost use Rattle.table.specs.Does.{head_after};
+ghost use Rattle.stored.specs.Judge.{are_lines, numbers};
 ghost use Rattle.stored.specs.Reads.{RingRead, VectorRead};
 
 use super::judges::{ring_judged, vector_judged};
@@ -12,7 +12,7 @@ use runs::total::Total;
 
 // What the lines say, a slot each. They were judged, so nothing is tested again.
 fn take_slots(text: &[u8], from: usize, slots: &mut [u32])
-    requires { (areLines (length slots.old) (drop from text.now) ≡ true) × (from + 9 * length slots.old ≤ length text.now) }
+    requires { (are_lines (length slots.old) (drop from text.now) ≡ true) × (from + 9 * length slots.old ≤ length text.now) }
     ensures { slots.new ≡ numbers (length slots.old) (drop from text.now) }
 {
     let mut i = 0;
@@ -27,7 +27,7 @@ fn take_slots(text: &[u8], from: usize, slots: &mut [u32])
 
 // An empty ring has head 0, whatever an older text says.
 fn home(head: usize, len: usize) -> usize
-    ensures { result ≡ headAfter ring len head }
+    ensures { result ≡ head_after ring len head }
 {
     if len == 0 {
         return 0;

@@ -18,9 +18,9 @@ abbrev pub lends : (a b : ℕ) → Tray → Part
 lends a b t = cond (invalid vector t || not (within a b t.len)) no_part (record { start = a; count = b - a })
 
 -- as_slice, as_ref, deref, as_mut_slice and deref_mut lend all entries
-abbrev pub lendsAll : Tray → Part
-lendsAll t = lends 0 t.len t
+abbrev pub lends_all : Tray → Part
+lends_all t = lends 0 t.len t
 
 -- what stands in a part of the slots
-abbrev pub inPart : Part → List ℕ → List ℕ
-inPart p slots = take p.count (drop p.start slots)
+abbrev pub in_part : Part → List ℕ → List ℕ
+in_part p slots = take p.count (drop p.start slots)

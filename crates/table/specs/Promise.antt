@@ -4,10 +4,10 @@ use Rattle.std.specs.Prelude.{ℕ, ◌+◌, ◌-◌, ◌≤◌, ◌≡◌, Bool,
 use Rattle.slots.specs.Count.{count}
 use Rattle.slots.specs.Layout.{Kind}
 use Rattle.table.specs.Tray.{Tray, cap, list, nowhere}
-use Rattle.table.specs.Calls.{Call, Call2, Making, has, has2, hasMaking}
+use Rattle.table.specs.Calls.{Call, Call2, Making, has, has2, has_making}
 use Rattle.table.specs.Table as table
 use Rattle.table.specs.Does.{Outcome, Outcome2, refused, refused2, does, does2, made}
-use Rattle.table.specs.Ledger.{Flow, Rule, Rule2, leaving, rule, rule2, ifDone, goesBy, goesBy2}
+use Rattle.table.specs.Ledger.{Flow, Rule, Rule2, leaving, rule, rule2, if_done, goes_by, goes_by2}
 
 -- a call on one container
 pub record Promise : Type 0 where
@@ -35,7 +35,7 @@ abbrev pub promise2 : Call2 → Promise2
 promise2 call = record { has = has2 call; does = λ k k2 t t2. does2 k k2 call t t2; rule = rule2 call }
 
 abbrev pub arrival : Making → Arrival
-arrival m = record { has = hasMaking m; makes = λ k slots. made k m slots; begins = table.begins m }
+arrival m = record { has = has_making m; makes = λ k slots. made k m slots; begins = table.begins m }
 
 -- a call that shows something and leaves everything as it was
 abbrev pub showing : (has : Kind → Bool) (does : Kind → Tray → Outcome) → Promise
@@ -78,11 +78,11 @@ pub record Keeps2 (r : Rule2) (k k2 : Kind) (l l2 : List ℕ) (o : Outcome2) : T
 
 -- A promise is kept where every outcome that it promises keeps its rule, done or refused.
 pub record Kept (p : Promise) : Type 0 where
-  pub keeps : (k : Kind) (t : Tray) → p.has k ≡ true → Good t → Keeps (goesBy (p.does k t).number p.rule) k (list k t) (p.does k t)
+  pub keeps : (k : Kind) (t : Tray) → p.has k ≡ true → Good t → Keeps (goes_by (p.does k t).number p.rule) k (list k t) (p.does k t)
 
 pub record Kept2 (p : Promise2) : Type 0 where
   pub keeps : (k k2 : Kind) (t t2 : Tray) → p.has k k2 ≡ true → Good t → Good t2
-      → Keeps2 (goesBy2 (p.does k k2 t t2).number p.rule) k k2 (list k t) (list k2 t2) (p.does k k2 t t2)
+      → Keeps2 (goes_by2 (p.does k k2 t t2).number p.rule) k k2 (list k t) (list k2 t2) (p.does k k2 t t2)
 
 pub record Arrives (a : Arrival) : Type 0 where
-  pub holds : (k : Kind) (slots : List ℕ) → a.has k ≡ true → Holds k (a.makes k slots).tray (ifDone (a.makes k slots).number a.begins [])
+  pub holds : (k : Kind) (slots : List ℕ) → a.has k ≡ true → Holds k (a.makes k slots).tray (if_done (a.makes k slots).number a.begins [])

@@ -5,5 +5,5 @@ use Rattle.table.specs.Does.{does}
 use Rattle.table.specs.Within.{exceeds}
 use Rattle.table.specs.Promise.{Promise, promise, unless}
 
-abbrev pub promiseWithin : (a : ℕ) → Call → Promise
-promiseWithin a call = unless 12 (λ k t. exceeds a (does k call t)) (promise call)
+abbrev pub promise_within : (a : ℕ) → Call → Promise
+promise_within a call = unless 12 (λ k t. exceeds a (does k call t)) (promise call)

@@ -8,16 +8,16 @@ use Rattle.table.specs.Calls.{Call, Call2, Making}
 use Rattle.table.specs.Does.{does, does2, made}
 
 -- the total n of a container, after a call on it
-unfoldable pub totalAfter : Kind → Call → Tray → (n : ℕ) → ℕ
-totalAfter k call t n = totalled n (list k t) (list k (does k call t).tray)
+unfoldable pub total_after : Kind → Call → Tray → (n : ℕ) → ℕ
+total_after k call t n = totalled n (list k t) (list k (does k call t).tray)
 
 -- the total that a making starts with
-unfoldable pub totalMade : Kind → Making → (slots : List ℕ) → ℕ
-totalMade k m slots = totalled 0 [] (list k (made k m slots).tray)
+unfoldable pub total_made : Kind → Making → (slots : List ℕ) → ℕ
+total_made k m slots = totalled 0 [] (list k (made k m slots).tray)
 
 -- after a call on two, of the container named first and of T
-unfoldable pub totalFirst : (k k2 : Kind) → Call2 → (t t2 : Tray) → (n : ℕ) → ℕ
-totalFirst k k2 call t t2 n = totalled n (list k t) (list k (does2 k k2 call t t2).first)
+unfoldable pub total_first : (k k2 : Kind) → Call2 → (t t2 : Tray) → (n : ℕ) → ℕ
+total_first k k2 call t t2 n = totalled n (list k t) (list k (does2 k k2 call t t2).first)
 
-unfoldable pub totalSecond : (k k2 : Kind) → Call2 → (t t2 : Tray) → (n : ℕ) → ℕ
-totalSecond k k2 call t t2 n = totalled n (list k2 t2) (list k2 (does2 k k2 call t t2).second)
+unfoldable pub total_second : (k k2 : Kind) → Call2 → (t t2 : Tray) → (n : ℕ) → ℕ
+total_second k k2 call t t2 n = totalled n (list k2 t2) (list k2 (does2 k k2 call t t2).second)

@@ -6,19 +6,19 @@ use Rattle.slots.specs.Total.{totalled}
 use Rattle.table.specs.Tray.{Tray, list, nowhere}
 use Rattle.table.specs.Calls.{Call}
 use Rattle.table.specs.Does.{Outcome, refused, does}
-use Rattle.table.specs.Reported.{toldSlot}
+use Rattle.table.specs.Reported.{told_slot}
 
 -- the call is done, and its moves are more than the allowance a
 abbrev pub exceeds : (a : ℕ) → Outcome → Bool
 exceeds a o = eqb o.number 0 && ltb a o.moves
 
 -- A call with the allowance a.
-unfoldable pub doesWithin : (a : ℕ) → Kind → Call → Tray → Outcome
-doesWithin a k call t = cond (exceeds a (does k call t)) (refused t nowhere 12) (does k call t)
+unfoldable pub does_within : (a : ℕ) → Kind → Call → Tray → Outcome
+does_within a k call t = cond (exceeds a (does k call t)) (refused t nowhere 12) (does k call t)
 
 -- The slot that it reports, and the total n afterwards: by its own outcome, as the plain call's.
-unfoldable pub reportedWithin : (a : ℕ) → Kind → Call → Tray → ℕ
-reportedWithin a k call t = toldSlot k call t (doesWithin a k call t)
+unfoldable pub reported_within : (a : ℕ) → Kind → Call → Tray → ℕ
+reported_within a k call t = told_slot k call t (does_within a k call t)
 
-unfoldable pub totalWithin : (a : ℕ) → Kind → Call → Tray → (n : ℕ) → ℕ
-totalWithin a k call t n = totalled n (list k t) (list k (doesWithin a k call t).tray)
+unfoldable pub total_within : (a : ℕ) → Kind → Call → Tray → (n : ℕ) → ℕ
+total_within a k call t n = totalled n (list k t) (list k (does_within a k call t).tray)

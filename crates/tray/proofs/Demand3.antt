@@ -8,7 +8,7 @@ use contract.Lifetimes.{Lfts}
 use denote.Triple.Clauses.{AtExit}
 use borrow.Fn.World.{ArgsD, ResD}
 use Rattle.table.specs.Ledger.{modelled, entered, handed, dropped}
-use Rattle.table.specs.World.{lines, held, standingAll}
+use Rattle.table.specs.World.{lines, held, standing_all}
 use Rattle.tray_lines.specs.declared.feeds.State.{State}
 use Rattle.tray_lines.specs.Seen.{world}
 use Rattle.tray_lines.specs.Acts.{begun}
@@ -27,7 +27,7 @@ use Rattle.tray.proofs.run.Reads as run·reads
 -- What `main` calls, in its order, each with what the one before gave back: `start` gave t, `fresh` s, `run` r.
 module _ (κs : Lfts 0) (a : ArgsD start·fn.signature κs) (t : ResD start·fn.signature κs) (e : AtExit start·fn.ended κs) (started : start·reads.Learnt κs a t e)
     (κs2 : Lfts 0) (a2 : ArgsD fresh·fn.signature κs2) (s : ResD fresh·fn.signature κs2) (e2 : AtExit fresh·fn.ended κs2)
-    (begin : a2.0 ≡ t) (begun-line : fresh·reads.Learnt κs2 a2 s e2)
+    (begin : a2.0 ≡ t) (begun_line : fresh·reads.Learnt κs2 a2 s e2)
     (κs3 : Lfts 2) (a3 : ArgsD run·fn.signature κs3) (r : ResD run·fn.signature κs3) (e3 : AtExit run·fn.ended κs3)
     (from : a3.0 ≡ s) (read : run·reads.Learnt κs3 a3 r e3) where
   -- some bytes that lead where `run` stands, as many as it counted
@@ -41,22 +41,22 @@ module _ (κs : Lfts 0) (a : ArgsD start·fn.signature κs) (t : ResD start·fn.
   there =
       read.state
       ∙ ap (λ (u : State). (feeds keeping (midway u) input).state) from
-      ∙ ap (λ (m : Midway Kept). (feeds keeping m input).state) (begun-line ∙ ap (fresh keeping) (ap world begin ∙ started))
+      ∙ ap (λ (m : Midway Kept). (feeds keeping m input).state) (begun_line ∙ ap (fresh keeping) (ap world begin ∙ started))
 
   -- DEMAND 3 OF A RUN SO FAR, or of one that ends because its output is closed: of the lines that an LF ended.
-  pub demand-3-so-far : (x : ℕ)
+  pub demand_3_so_far : (x : ℕ)
       → entered x [] (lines (happened (finished [] input)))
-      ≡ handed x [] (lines (happened (finished [] input))) + dropped x [] (lines (happened (finished [] input))) + standingAll x (world r.state.trays)
-  demand-3-so-far = ran.demand-3-so-far r.state input there
+      ≡ handed x [] (lines (happened (finished [] input))) + dropped x [] (lines (happened (finished [] input))) + standing_all x (world r.state.trays)
+  demand_3_so_far = ran.demand_3_so_far r.state input there
 
   -- DEMAND 3 OF A WHOLE RUN, once `ended` gave z: of all lines.
   module _ (κs4 : Lfts 0) (a4 : ArgsD ended·fn.signature κs4) (z : ResD ended·fn.signature κs4) (e4 : AtExit ended·fn.ended κs4)
       (last : a4.0 ≡ r.state) (done : ended·reads.Learnt κs4 a4 z e4) where
-    pub demand-3-of-tray : (x : ℕ)
+    pub demand_3_of_tray : (x : ℕ)
         → entered x [] (lines (happened (lines_of [] input)))
-        ≡ handed x [] (lines (happened (lines_of [] input))) + dropped x [] (lines (happened (lines_of [] input))) + standingAll x (world z.trays)
-    demand-3-of-tray = ran.demand-3-at-end r.state input there κs4 a4 z e4 last done
+        ≡ handed x [] (lines (happened (lines_of [] input))) + dropped x [] (lines (happened (lines_of [] input))) + standing_all x (world z.trays)
+    demand_3_of_tray = ran.demand_3_at_end r.state input there κs4 a4 z e4 last done
 
     -- and the model lists that it counts over are what the slots hold
-    pub models-of-tray : held (world z.trays) ≡ modelled [] (lines (happened (lines_of [] input)))
-    models-of-tray = ran.models-at-end r.state input there κs4 a4 z e4 last done
+    pub models_of_tray : held (world z.trays) ≡ modelled [] (lines (happened (lines_of [] input)))
+    models_of_tray = ran.models_at_end r.state input there κs4 a4 z e4 last done

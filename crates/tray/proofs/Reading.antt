@@ -11,7 +11,7 @@ use lib.ListN.{length, take, length-append}
 use lib.Seq.{length-take-le}
 use Rattle.tray_lines.specs.declared.feeds.State.{State}
 use Rattle.tray_lines.specs.Feeds.{Midway, Kept, Feeds, feeds, keeping, midway}
-use Rattle.tray_lines.proofs.Blocks.{feeds-join}
+use Rattle.tray_lines.proofs.Blocks.{feeds_join}
 use Rattle.tray.specs.declared.Went.{Went}
 use Rattle.tray.specs.Reading.{Turned, Ran}
 
@@ -32,7 +32,7 @@ one_more s w r buffer ran turned =
       state =
           turned.state
           ∙ ap (λ (m : Midway Kept). (feeds keeping m more).state) ran.state
-          ∙ ap (λ (f : Feeds Kept). f.state) (sym (feeds-join keeping (midway s) ran.bytes more));
+          ∙ ap (λ (f : Feeds Kept). f.state) (sym (feeds_join keeping (midway s) ran.bytes more));
     }
 
 -- how far the count is from its end, and whether there may be more to read

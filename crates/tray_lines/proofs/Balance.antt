@@ -10,64 +10,64 @@ use Rattle.table.specs.Tray.{Tray, invalid}
 use Rattle.table.specs.Calls.{new}
 use Rattle.table.specs.Does.{Outcome2, does, does2, made}
 use Rattle.table.specs.Ledger.{modelled, entered, handed, dropped}
-use Rattle.table.specs.World.{World, Event, at, make, Ours, AllOurs, run, lines, held, standingAll}
-use Rattle.table.proofs.Laws.Keeps.{call_kept, two-kept, made-arrives}
-use Rattle.table.proofs.Theorems.Demand3.{demand-3, models}
-use Rattle.table.proofs.Theorems.Home.{AtHome, valid-home}
-use Rattle.table.proofs.Theorems.StaysValid.{stays-valid, first-stays-valid, second-stays-valid, made-valid}
+use Rattle.table.specs.World.{World, Event, at, make, Ours, AllOurs, run, lines, held, standing_all}
+use Rattle.table.proofs.Laws.Keeps.{call_kept, two_kept, made_arrives}
+use Rattle.table.proofs.Theorems.Demand3.{demand_3, models}
+use Rattle.table.proofs.Theorems.Home.{AtHome, valid_home}
+use Rattle.table.proofs.Theorems.StaysValid.{stays_valid, first_stays_valid, second_stays_valid, made_valid}
 use Rattle.tray_lines.specs.declared.lines.RingOp.{RingOp}
 use Rattle.tray_lines.specs.declared.lines.VectorOp.{VectorOp}
 use Rattle.tray_lines.specs.declared.lines.Call.{Call}
 use Rattle.tray_lines.specs.declared.lines.Said.{Said}
 use Rattle.tray_lines.specs.Lines.{said}
-use Rattle.tray_lines.specs.Acts.{Act, one, two, hasAct, ringAct, vectorAct, actDoes, eventAt, event, Acts, acts, free, begun}
-use Rattle.tray_lines.specs.Answers.{tellsOf, tells}
-use Rattle.tray_lines.specs.Runs.{after, eventsOf, calls, happened}
-use Rattle.tray_lines.proofs.Doing.{four, on-0, on-1, on-2, on-3}
+use Rattle.tray_lines.specs.Acts.{Act, one, two, has_act, ring_act, vector_act, act_does, event_at, event, Acts, acts, free, begun}
+use Rattle.tray_lines.specs.Answers.{tells_of, tells}
+use Rattle.tray_lines.specs.Runs.{after, events_of, calls, happened}
+use Rattle.tray_lines.proofs.Doing.{four, on_0, on_1, on_2, on_3}
 
 -- every operation is one that its kind has
-pub ring-has : (op : RingOp) → hasAct (ringAct op) ring ≡ true
-ring-has (RingOp.PushBack x) = refl
-ring-has (RingOp.PushFront x) = refl
-ring-has RingOp.PopBack = refl
-ring-has RingOp.PopFront = refl
-ring-has (RingOp.Insert i x) = refl
-ring-has (RingOp.Remove i) = refl
-ring-has RingOp.Append = refl
-ring-has (RingOp.SplitOff i) = refl
-ring-has (RingOp.Truncate k) = refl
-ring-has (RingOp.Resize k x) = refl
-ring-has RingOp.Clear = refl
-ring-has (RingOp.Read i) = refl
-ring-has (RingOp.Write i x) = refl
+pub ring_has : (op : RingOp) → has_act (ring_act op) ring ≡ true
+ring_has (RingOp.PushBack x) = refl
+ring_has (RingOp.PushFront x) = refl
+ring_has RingOp.PopBack = refl
+ring_has RingOp.PopFront = refl
+ring_has (RingOp.Insert i x) = refl
+ring_has (RingOp.Remove i) = refl
+ring_has RingOp.Append = refl
+ring_has (RingOp.SplitOff i) = refl
+ring_has (RingOp.Truncate k) = refl
+ring_has (RingOp.Resize k x) = refl
+ring_has RingOp.Clear = refl
+ring_has (RingOp.Read i) = refl
+ring_has (RingOp.Write i x) = refl
 
-pub vector-has : (op : VectorOp) → hasAct (vectorAct op) vector ≡ true
-vector-has (VectorOp.Push x) = refl
-vector-has VectorOp.Pop = refl
-vector-has (VectorOp.Insert i x) = refl
-vector-has (VectorOp.Remove i) = refl
-vector-has (VectorOp.SwapRemove i) = refl
-vector-has VectorOp.Append = refl
-vector-has (VectorOp.SplitOff i) = refl
-vector-has (VectorOp.Truncate k) = refl
-vector-has (VectorOp.Resize k x) = refl
-vector-has VectorOp.Clear = refl
-vector-has (VectorOp.Read i) = refl
-vector-has (VectorOp.Write i x) = refl
+pub vector_has : (op : VectorOp) → has_act (vector_act op) vector ≡ true
+vector_has (VectorOp.Push x) = refl
+vector_has VectorOp.Pop = refl
+vector_has (VectorOp.Insert i x) = refl
+vector_has (VectorOp.Remove i) = refl
+vector_has (VectorOp.SwapRemove i) = refl
+vector_has VectorOp.Append = refl
+vector_has (VectorOp.SplitOff i) = refl
+vector_has (VectorOp.Truncate k) = refl
+vector_has (VectorOp.Resize k x) = refl
+vector_has VectorOp.Clear = refl
+vector_has (VectorOp.Read i) = refl
+vector_has (VectorOp.Write i x) = refl
 
 -- a call on one container of a kind that has it, or on two different ones, is one of ours
 ours_at : (w : World) (i j : ℕ) (k : Kind) → i < length w → j < length w → (i ≡ j → ⊥) → (at w i).kind ≡ k → (at w j).kind ≡ k
-    → (a : Act) → hasAct a k ≡ true → Ours w (eventAt w i j a)
+    → (a : Act) → has_act a k ≡ true → Ours w (event_at w i j a)
 ours_at w i j k li lj ne ki kj (one call) h = (li, rw ki h, refl, call_kept call)
-ours_at w i j k li lj ne ki kj (two call) h = (li, lj, ne, rw (ki, kj) h, refl, two-kept call)
+ours_at w i j k li lj ne ki kj (two call) h = (li, lj, ne, rw (ki, kj) h, refl, two_kept call)
 
 -- what is done to valid containers leaves them valid
-both-valid : (k : Kind) (a : Act) (t t2 : Tray) → invalid k t ≡ false → invalid k t2 ≡ false
-    → (invalid k (actDoes k a t t2).first ≡ false) × (invalid k (actDoes k a t t2).second ≡ false)
-both-valid k (one call) t t2 ok ok2 = (stays-valid k call t (does k call t) refl ok, ok2)
-both-valid k (two call) t t2 ok ok2 = (
-  first-stays-valid k k call t t2 (does2 k k call t t2) refl ok,
-  second-stays-valid k k call t t2 (does2 k k call t t2) refl ok2,
+both_valid : (k : Kind) (a : Act) (t t2 : Tray) → invalid k t ≡ false → invalid k t2 ≡ false
+    → (invalid k (act_does k a t t2).first ≡ false) × (invalid k (act_does k a t t2).second ≡ false)
+both_valid k (one call) t t2 ok ok2 = (stays_valid k call t (does k call t) refl ok, ok2)
+both_valid k (two call) t t2 ok ok2 = (
+  first_stays_valid k k call t t2 (does2 k k call t t2) refl ok,
+  second_stays_valid k k call t t2 (does2 k k call t t2) refl ok2,
 )
 
 abbrev Valids : (t0 t1 t2 t3 : Tray) → Type 0
@@ -90,58 +90,58 @@ record Goes (w : World) (c : Call) : Type 0 where
 goes : (t0 t1 t2 t3 : Tray) → Valids t0 t1 t2 t3 → (c : Call) → Goes (four t0 t1 t2 t3) c
 unfolding acts
 goes t0 t1 t2 t3 v (Call.Ring false op) = record {
-  ours = ours_at (four t0 t1 t2 t3) 0 1 ring (omega arith) (omega arith) (λ e. omega arith) refl refl (ringAct op) (ring-has op);
+  ours = ours_at (four t0 t1 t2 t3) 0 1 ring (omega arith) (omega arith) (λ e. omega arith) refl refl (ring_act op) (ring_has op);
   still =
-      let o : Outcome2 = actDoes ring (ringAct op) t0 t1 in
-      let ok = both-valid ring (ringAct op) t0 t1 v.0 v.1 in
+      let o : Outcome2 = act_does ring (ring_act op) t0 t1 in
+      let ok = both_valid ring (ring_act op) t0 t1 v.0 v.1 in
       record {
         t0 = o.first;
         t1 = o.second;
         t2 = t2;
         t3 = t3;
-        is = sym (ap (λ (a : Acts). a.world) (on-0 t0 t1 t2 t3 o _ (ringAct op) refl refl));
+        is = sym (ap (λ (a : Acts). a.world) (on_0 t0 t1 t2 t3 o _ (ring_act op) refl refl));
         valid = (ok.0, ok.1, v.2, v.3);
       };
 }
 goes t0 t1 t2 t3 v (Call.Ring true op) = record {
-  ours = ours_at (four t0 t1 t2 t3) 1 0 ring (omega arith) (omega arith) (λ e. omega arith) refl refl (ringAct op) (ring-has op);
+  ours = ours_at (four t0 t1 t2 t3) 1 0 ring (omega arith) (omega arith) (λ e. omega arith) refl refl (ring_act op) (ring_has op);
   still =
-      let o : Outcome2 = actDoes ring (ringAct op) t1 t0 in
-      let ok = both-valid ring (ringAct op) t1 t0 v.1 v.0 in
+      let o : Outcome2 = act_does ring (ring_act op) t1 t0 in
+      let ok = both_valid ring (ring_act op) t1 t0 v.1 v.0 in
       record {
         t0 = o.second;
         t1 = o.first;
         t2 = t2;
         t3 = t3;
-        is = sym (ap (λ (a : Acts). a.world) (on-1 t0 t1 t2 t3 o _ (ringAct op) refl refl));
+        is = sym (ap (λ (a : Acts). a.world) (on_1 t0 t1 t2 t3 o _ (ring_act op) refl refl));
         valid = (ok.1, ok.0, v.2, v.3);
       };
 }
 goes t0 t1 t2 t3 v (Call.Vector false op) = record {
-  ours = ours_at (four t0 t1 t2 t3) 2 3 vector (omega arith) (omega arith) (λ e. omega arith) refl refl (vectorAct op) (vector-has op);
+  ours = ours_at (four t0 t1 t2 t3) 2 3 vector (omega arith) (omega arith) (λ e. omega arith) refl refl (vector_act op) (vector_has op);
   still =
-      let o : Outcome2 = actDoes vector (vectorAct op) t2 t3 in
-      let ok = both-valid vector (vectorAct op) t2 t3 v.2 v.3 in
+      let o : Outcome2 = act_does vector (vector_act op) t2 t3 in
+      let ok = both_valid vector (vector_act op) t2 t3 v.2 v.3 in
       record {
         t0 = t0;
         t1 = t1;
         t2 = o.first;
         t3 = o.second;
-        is = sym (ap (λ (a : Acts). a.world) (on-2 t0 t1 t2 t3 o _ (vectorAct op) refl refl));
+        is = sym (ap (λ (a : Acts). a.world) (on_2 t0 t1 t2 t3 o _ (vector_act op) refl refl));
         valid = (v.0, v.1, ok.0, ok.1);
       };
 }
 goes t0 t1 t2 t3 v (Call.Vector true op) = record {
-  ours = ours_at (four t0 t1 t2 t3) 3 2 vector (omega arith) (omega arith) (λ e. omega arith) refl refl (vectorAct op) (vector-has op);
+  ours = ours_at (four t0 t1 t2 t3) 3 2 vector (omega arith) (omega arith) (λ e. omega arith) refl refl (vector_act op) (vector_has op);
   still =
-      let o : Outcome2 = actDoes vector (vectorAct op) t3 t2 in
-      let ok = both-valid vector (vectorAct op) t3 t2 v.3 v.2 in
+      let o : Outcome2 = act_does vector (vector_act op) t3 t2 in
+      let ok = both_valid vector (vector_act op) t3 t2 v.3 v.2 in
       record {
         t0 = t0;
         t1 = t1;
         t2 = o.second;
         t3 = o.first;
-        is = sym (ap (λ (a : Acts). a.world) (on-3 t0 t1 t2 t3 o _ (vectorAct op) refl refl));
+        is = sym (ap (λ (a : Acts). a.world) (on_3 t0 t1 t2 t3 o _ (vector_act op) refl refl));
         valid = (v.0, v.1, ok.1, ok.0);
       };
 }
@@ -158,8 +158,8 @@ unfolding acts tells
 leads w [] f = record { ours = tt; there = refl; still = f }
 leads w (l ∷ ls) f = go (said l) (λ g. leads (tells w l).world ls g)
   where
-    go : (s : Said) → (Fours (tellsOf w s).world → Leads (tellsOf w s).world (calls (tellsOf w s).world ls) (after (tellsOf w s).world ls))
-        → Leads w (eventsOf w s ++ calls (tellsOf w s).world ls) (after (tellsOf w s).world ls)
+    go : (s : Said) → (Fours (tells_of w s).world → Leads (tells_of w s).world (calls (tells_of w s).world ls) (after (tells_of w s).world ls))
+        → Leads w (events_of w s ++ calls (tells_of w s).world ls) (after (tells_of w s).world ls)
     go (Said.Call c) rest =
         let g : Goes w c = rw f.is (goes f.t0 f.t1 f.t2 f.t3 f.valid c) in
         let r = rest g.still in
@@ -167,46 +167,46 @@ leads w (l ∷ ls) f = go (said l) (λ g. leads (tells w l).world ls g)
     go Said.Garbled rest = rest f
     go Said.Unknown rest = rest f
 
-begun-four : Fours begun
+begun_four : Fours begun
 unfolding begun
-begun-four = record {
+begun_four = record {
   t0 = (made ring new free).tray;
   t1 = (made ring new free).tray;
   t2 = (made vector new free).tray;
   t3 = (made vector new free).tray;
   is = refl;
-  valid = (made-valid ring new free _ refl few, made-valid ring new free _ refl few, made-valid vector new free _ refl few, made-valid vector new free _ refl few);
+  valid = (made_valid ring new free _ refl few, made_valid ring new free _ refl few, made_valid vector new free _ refl few, made_valid vector new free _ refl few);
 }
   where
     few : length free ≤ 4096
     few = omega arith
 
 -- After any lines every container is valid.
-pub lines-valid : (ls : List (List ℕ)) → Fours (after begun ls)
-lines-valid ls = (leads begun ls begun-four).still
+pub lines_valid : (ls : List (List ℕ)) → Fours (after begun ls)
+lines_valid ls = (leads begun ls begun_four).still
 
 -- So an empty ring has head 0.
-pub lines-home : (ls : List (List ℕ)) → AtHome ring (lines-valid ls).t0 × AtHome ring (lines-valid ls).t1
-lines-home ls = let v = (lines-valid ls).valid in (valid-home ring (lines-valid ls).t0 v.0, valid-home ring (lines-valid ls).t1 v.1)
+pub lines_home : (ls : List (List ℕ)) → AtHome ring (lines_valid ls).t0 × AtHome ring (lines_valid ls).t1
+lines_home ls = let v = (lines_valid ls).valid in (valid_home ring (lines_valid ls).t0 v.0, valid_home ring (lines_valid ls).t1 v.1)
 
-all-ours : (ls : List (List ℕ)) → AllOurs [] (happened ls)
+all_ours : (ls : List (List ℕ)) → AllOurs [] (happened ls)
 unfolding begun
-all-ours ls = (began ring, (began ring, (began vector, (began vector, (leads begun ls begun-four).ours))))
+all_ours ls = (began ring, (began ring, (began vector, (began vector, (leads begun ls begun_four).ours))))
   where
     began : (k : Kind) → Ours [] (make k new free (made k new free))
-    began k = (refl, refl, made-arrives new)
+    began k = (refl, refl, made_arrives new)
 
 ends_there : (ls : List (List ℕ)) → run [] (happened ls) ≡ after begun ls
 unfolding begun
-ends_there ls = (leads begun ls begun-four).there
+ends_there ls = (leads begun ls begun_four).there
 
 -- After any lines, the model lists that are folded from the calls and answers alone are what the slots hold,
-pub lines-model : (ls : List (List ℕ)) → held (after begun ls) ≡ modelled [] (lines (happened ls))
-lines-model ls = ap held (sym (ends_there ls)) ∙ models (happened ls) (all-ours ls)
+pub lines_model : (ls : List (List ℕ)) → held (after begun ls) ≡ modelled [] (lines (happened ls))
+lines_model ls = ap held (sym (ends_there ls)) ∙ models (happened ls) (all_ours ls)
 
 -- and each number has entered exactly as often as it was handed out, was dropped, or stands in the occupied slots.
-pub lines-balance : (ls : List (List ℕ)) (x : ℕ)
-    → entered x [] (lines (happened ls)) ≡ handed x [] (lines (happened ls)) + dropped x [] (lines (happened ls)) + standingAll x (after begun ls)
-lines-balance ls x =
-    demand-3 (happened ls) (all-ours ls) x
-    ∙ ap (λ (w : World). handed x [] (lines (happened ls)) + dropped x [] (lines (happened ls)) + standingAll x w) (ends_there ls)
+pub lines_balance : (ls : List (List ℕ)) (x : ℕ)
+    → entered x [] (lines (happened ls)) ≡ handed x [] (lines (happened ls)) + dropped x [] (lines (happened ls)) + standing_all x (after begun ls)
+lines_balance ls x =
+    demand_3 (happened ls) (all_ours ls) x
+    ∙ ap (λ (w : World). handed x [] (lines (happened ls)) + dropped x [] (lines (happened ls)) + standing_all x w) (ends_there ls)

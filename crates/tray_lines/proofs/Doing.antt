@@ -13,11 +13,11 @@ use Rattle.ring.specs.declared.Ring.{Ring}
 use Rattle.ring.specs.Seen as rings
 use Rattle.vector.specs.declared.Vector.{Vector}
 use Rattle.vector.specs.Seen as vectors
-use Rattle.ring.specs.declared.Answer as ringAnswers
-use Rattle.vector.specs.declared.Answer as vectorAnswers
-use Rattle.pairs.specs.Rings as ringPairs
-use Rattle.pairs.specs.Vectors as vectorPairs
-use Rattle.pairs.specs.declared.rings.Both as ringPair
+use Rattle.ring.specs.declared.Answer as ring_answers
+use Rattle.vector.specs.declared.Answer as vector_answers
+use Rattle.pairs.specs.Rings as ring_pairs
+use Rattle.pairs.specs.Vectors as vector_pairs
+use Rattle.pairs.specs.declared.rings.Both as ring_pair
 use Rattle.pairs.specs.declared.vectors.Both as vector_pair
 use Rattle.tray_lines.specs.declared.lines.RingOp.{RingOp}
 use Rattle.tray_lines.specs.declared.lines.VectorOp.{VectorOp}
@@ -28,53 +28,53 @@ use Rattle.tray_lines.specs.declared.acts.RingDid.{RingDid}
 use Rattle.tray_lines.specs.declared.acts.VectorDid.{VectorDid}
 use Rattle.tray_lines.specs.declared.acts.Trays.{Trays}
 use Rattle.tray_lines.specs.declared.acts.Answer.{Answer}
-use Rattle.tray_lines.specs.Acts.{Act, one, two, ringAct, vectorAct, beside, actDoes, eventAt, actSlot, reports, Acts, actsAs, acts, free, begun}
-use Rattle.tray_lines.specs.Seen.{ringState, vectorState, ringHere, vectorHere, world, ringsSeen, vectorsSeen, RingDoes, VectorDoes, oneRing, oneVector, twoRings, twoVectors, ringAnswer, vectorAnswer}
+use Rattle.tray_lines.specs.Acts.{Act, one, two, ring_act, vector_act, beside, act_does, event_at, act_slot, reports, Acts, acts_as, acts, free, begun}
+use Rattle.tray_lines.specs.Seen.{ring_state, vector_state, ring_here, vector_here, world, rings_seen, vectors_seen, RingDoes, VectorDoes, one_ring, one_vector, two_rings, two_vectors, ring_answer, vector_answer}
 
 -- an operation on one container: `op` is known to be `is`
-pub ring-one : (op is : RingOp) (call : table.Call) (me : HeldRing) (r : Ring) (a : ringAnswers.Answer) (s : List ℕ) (other : HeldRing) (d : RingDid)
-    → op ≡ is → ringAct is ≡ one call → r ≡ ringState me → rings.Meets call r me.slots a s → d ≡ oneRing a s other
+pub ring_one : (op is : RingOp) (call : table.Call) (me : HeldRing) (r : Ring) (a : ring_answers.Answer) (s : List ℕ) (other : HeldRing) (d : RingDid)
+    → op ≡ is → ring_act is ≡ one call → r ≡ ring_state me → rings.Meets call r me.slots a s → d ≡ one_ring a s other
     → RingDoes op me other d
-ring-one op is call me r a s other d eo ec er meets ed =
-    let act : ringAct op ≡ one call = ap ringAct eo ∙ ec in
-    let ea : rings.Meets call (ringState me) me.slots a s = rw er at meets in
+ring_one op is call me r a s other d eo ec er meets ed =
+    let act : ring_act op ≡ one call = ap ring_act eo ∙ ec in
+    let ea : rings.Meets call (ring_state me) me.slots a s = rw er at meets in
     record {
-      row = ap ringsSeen ed ∙ ap (λ o. beside o (ringHere other).tray) ea.row ∙ sym (ap (λ (x : Act). actDoes ring x (ringHere me).tray (ringHere other).tray) act);
-      slot = ap (λ (d : RingDid). d.slot) ed ∙ ea.slot ∙ sym (ap (λ (x : Act). actSlot ring x (ringHere me).tray) act);
+      row = ap rings_seen ed ∙ ap (λ o. beside o (ring_here other).tray) ea.row ∙ sym (ap (λ (x : Act). act_does ring x (ring_here me).tray (ring_here other).tray) act);
+      slot = ap (λ (d : RingDid). d.slot) ed ∙ ea.slot ∙ sym (ap (λ (x : Act). act_slot ring x (ring_here me).tray) act);
     }
 
-pub vector-one : (op is : VectorOp) (call : table.Call) (me : HeldVector) (v : Vector) (a : vectorAnswers.Answer) (s : List ℕ) (other : HeldVector) (d : VectorDid)
-    → op ≡ is → vectorAct is ≡ one call → v ≡ vectorState me → vectors.Meets call v me.slots a s → d ≡ oneVector a s other
+pub vector_one : (op is : VectorOp) (call : table.Call) (me : HeldVector) (v : Vector) (a : vector_answers.Answer) (s : List ℕ) (other : HeldVector) (d : VectorDid)
+    → op ≡ is → vector_act is ≡ one call → v ≡ vector_state me → vectors.Meets call v me.slots a s → d ≡ one_vector a s other
     → VectorDoes op me other d
-vector-one op is call me v a s other d eo ec er meets ed =
-    let act : vectorAct op ≡ one call = ap vectorAct eo ∙ ec in
-    let ea : vectors.Meets call (vectorState me) me.slots a s = rw er at meets in
+vector_one op is call me v a s other d eo ec er meets ed =
+    let act : vector_act op ≡ one call = ap vector_act eo ∙ ec in
+    let ea : vectors.Meets call (vector_state me) me.slots a s = rw er at meets in
     record {
-      row = ap vectorsSeen ed ∙ ap (λ o. beside o (vectorHere other).tray) ea.row ∙ sym (ap (λ (x : Act). actDoes vector x (vectorHere me).tray (vectorHere other).tray) act);
-      slot = ap (λ (d : VectorDid). d.slot) ed ∙ ea.slot ∙ sym (ap (λ (x : Act). actSlot vector x (vectorHere me).tray) act);
+      row = ap vectors_seen ed ∙ ap (λ o. beside o (vector_here other).tray) ea.row ∙ sym (ap (λ (x : Act). act_does vector x (vector_here me).tray (vector_here other).tray) act);
+      slot = ap (λ (d : VectorDid). d.slot) ed ∙ ea.slot ∙ sym (ap (λ (x : Act). act_slot vector x (vector_here me).tray) act);
     }
 
 -- and one on two
-pub ring-two : (op is : RingOp) (call : table.Call2) (me other : HeldRing) (r t : Ring) (a : ringPair.Both) (s s2 : List ℕ) (d : RingDid)
-    → op ≡ is → ringAct is ≡ two call → r ≡ ringState me → t ≡ ringState other → ringPairs.Meets call r me.slots t other.slots a s s2 → d ≡ twoRings a s s2
+pub ring_two : (op is : RingOp) (call : table.Call2) (me other : HeldRing) (r t : Ring) (a : ring_pair.Both) (s s2 : List ℕ) (d : RingDid)
+    → op ≡ is → ring_act is ≡ two call → r ≡ ring_state me → t ≡ ring_state other → ring_pairs.Meets call r me.slots t other.slots a s s2 → d ≡ two_rings a s s2
     → RingDoes op me other d
-ring-two op is call me other r t a s s2 d eo ec er et meets ed =
-    let act : ringAct op ≡ two call = ap ringAct eo ∙ ec in
-    let ea : ringPairs.Meets call (ringState me) me.slots (ringState other) other.slots a s s2 = rw (er, et) at meets in
+ring_two op is call me other r t a s s2 d eo ec er et meets ed =
+    let act : ring_act op ≡ two call = ap ring_act eo ∙ ec in
+    let ea : ring_pairs.Meets call (ring_state me) me.slots (ring_state other) other.slots a s s2 = rw (er, et) at meets in
     record {
-      row = ap ringsSeen ed ∙ ea.row ∙ sym (ap (λ (x : Act). actDoes ring x (ringHere me).tray (ringHere other).tray) act);
-      slot = ap (λ (d : RingDid). d.slot) ed ∙ ea.slot ∙ sym (ap (λ (x : Act). actSlot ring x (ringHere me).tray) act);
+      row = ap rings_seen ed ∙ ea.row ∙ sym (ap (λ (x : Act). act_does ring x (ring_here me).tray (ring_here other).tray) act);
+      slot = ap (λ (d : RingDid). d.slot) ed ∙ ea.slot ∙ sym (ap (λ (x : Act). act_slot ring x (ring_here me).tray) act);
     }
 
-pub vector-two : (op is : VectorOp) (call : table.Call2) (me other : HeldVector) (v t : Vector) (a : vector_pair.Both) (s s2 : List ℕ) (d : VectorDid)
-    → op ≡ is → vectorAct is ≡ two call → v ≡ vectorState me → t ≡ vectorState other → vectorPairs.Meets call v me.slots t other.slots a s s2 → d ≡ twoVectors a s s2
+pub vector_two : (op is : VectorOp) (call : table.Call2) (me other : HeldVector) (v t : Vector) (a : vector_pair.Both) (s s2 : List ℕ) (d : VectorDid)
+    → op ≡ is → vector_act is ≡ two call → v ≡ vector_state me → t ≡ vector_state other → vector_pairs.Meets call v me.slots t other.slots a s s2 → d ≡ two_vectors a s s2
     → VectorDoes op me other d
-vector-two op is call me other v t a s s2 d eo ec er et meets ed =
-    let act : vectorAct op ≡ two call = ap vectorAct eo ∙ ec in
-    let ea : vectorPairs.Meets call (vectorState me) me.slots (vectorState other) other.slots a s s2 = rw (er, et) at meets in
+vector_two op is call me other v t a s s2 d eo ec er et meets ed =
+    let act : vector_act op ≡ two call = ap vector_act eo ∙ ec in
+    let ea : vector_pairs.Meets call (vector_state me) me.slots (vector_state other) other.slots a s s2 = rw (er, et) at meets in
     record {
-      row = ap vectorsSeen ed ∙ ea.row ∙ sym (ap (λ (x : Act). actDoes vector x (vectorHere me).tray (vectorHere other).tray) act);
-      slot = ap (λ (d : VectorDid). d.slot) ed ∙ ea.slot ∙ sym (ap (λ (x : Act). actSlot vector x (vectorHere me).tray) act);
+      row = ap vectors_seen ed ∙ ea.row ∙ sym (ap (λ (x : Act). act_does vector x (vector_here me).tray (vector_here other).tray) act);
+      slot = ap (λ (d : VectorDid). d.slot) ed ∙ ea.slot ∙ sym (ap (λ (x : Act). act_slot vector x (vector_here me).tray) act);
     }
 
 -- two rings and two vectors
@@ -91,60 +91,60 @@ leaving k w o slot = record { world = w; answer = reports o.number o.value o.mov
 
 -- what is done to two of the four is the event on them, whichever two of a kind they are
 module _ (t0 t1 t2 t3 : Tray) (o : Outcome2) (n : ℕ) where
-  pub on-0 : (a : Act) → o ≡ actDoes ring a t0 t1 → n ≡ actSlot ring a t0
-      → leaving ring (four o.first o.second t2 t3) o n ≡ actsAs (four t0 t1 t2 t3) (eventAt (four t0 t1 t2 t3) 0 1 a) 0 (actSlot ring a t0)
-  on-0 (one call) e s = ap₂ (λ (o : Outcome2) n. leaving ring (four o.first o.second t2 t3) o n) e s
-  on-0 (two call) e s = ap₂ (λ (o : Outcome2) n. leaving ring (four o.first o.second t2 t3) o n) e s
+  pub on_0 : (a : Act) → o ≡ act_does ring a t0 t1 → n ≡ act_slot ring a t0
+      → leaving ring (four o.first o.second t2 t3) o n ≡ acts_as (four t0 t1 t2 t3) (event_at (four t0 t1 t2 t3) 0 1 a) 0 (act_slot ring a t0)
+  on_0 (one call) e s = ap₂ (λ (o : Outcome2) n. leaving ring (four o.first o.second t2 t3) o n) e s
+  on_0 (two call) e s = ap₂ (λ (o : Outcome2) n. leaving ring (four o.first o.second t2 t3) o n) e s
 
-  pub on-1 : (a : Act) → o ≡ actDoes ring a t1 t0 → n ≡ actSlot ring a t1
-      → leaving ring (four o.second o.first t2 t3) o n ≡ actsAs (four t0 t1 t2 t3) (eventAt (four t0 t1 t2 t3) 1 0 a) 1 (actSlot ring a t1)
-  on-1 (one call) e s = ap₂ (λ (o : Outcome2) n. leaving ring (four o.second o.first t2 t3) o n) e s
-  on-1 (two call) e s = ap₂ (λ (o : Outcome2) n. leaving ring (four o.second o.first t2 t3) o n) e s
+  pub on_1 : (a : Act) → o ≡ act_does ring a t1 t0 → n ≡ act_slot ring a t1
+      → leaving ring (four o.second o.first t2 t3) o n ≡ acts_as (four t0 t1 t2 t3) (event_at (four t0 t1 t2 t3) 1 0 a) 1 (act_slot ring a t1)
+  on_1 (one call) e s = ap₂ (λ (o : Outcome2) n. leaving ring (four o.second o.first t2 t3) o n) e s
+  on_1 (two call) e s = ap₂ (λ (o : Outcome2) n. leaving ring (four o.second o.first t2 t3) o n) e s
 
-  pub on-2 : (a : Act) → o ≡ actDoes vector a t2 t3 → n ≡ actSlot vector a t2
-      → leaving vector (four t0 t1 o.first o.second) o n ≡ actsAs (four t0 t1 t2 t3) (eventAt (four t0 t1 t2 t3) 2 3 a) 2 (actSlot vector a t2)
-  on-2 (one call) e s = ap₂ (λ (o : Outcome2) n. leaving vector (four t0 t1 o.first o.second) o n) e s
-  on-2 (two call) e s = ap₂ (λ (o : Outcome2) n. leaving vector (four t0 t1 o.first o.second) o n) e s
+  pub on_2 : (a : Act) → o ≡ act_does vector a t2 t3 → n ≡ act_slot vector a t2
+      → leaving vector (four t0 t1 o.first o.second) o n ≡ acts_as (four t0 t1 t2 t3) (event_at (four t0 t1 t2 t3) 2 3 a) 2 (act_slot vector a t2)
+  on_2 (one call) e s = ap₂ (λ (o : Outcome2) n. leaving vector (four t0 t1 o.first o.second) o n) e s
+  on_2 (two call) e s = ap₂ (λ (o : Outcome2) n. leaving vector (four t0 t1 o.first o.second) o n) e s
 
-  pub on-3 : (a : Act) → o ≡ actDoes vector a t3 t2 → n ≡ actSlot vector a t3
-      → leaving vector (four t0 t1 o.second o.first) o n ≡ actsAs (four t0 t1 t2 t3) (eventAt (four t0 t1 t2 t3) 3 2 a) 3 (actSlot vector a t3)
-  on-3 (one call) e s = ap₂ (λ (o : Outcome2) n. leaving vector (four t0 t1 o.second o.first) o n) e s
-  on-3 (two call) e s = ap₂ (λ (o : Outcome2) n. leaving vector (four t0 t1 o.second o.first) o n) e s
+  pub on_3 : (a : Act) → o ≡ act_does vector a t3 t2 → n ≡ act_slot vector a t3
+      → leaving vector (four t0 t1 o.second o.first) o n ≡ acts_as (four t0 t1 t2 t3) (event_at (four t0 t1 t2 t3) 3 2 a) 3 (act_slot vector a t3)
+  on_3 (one call) e s = ap₂ (λ (o : Outcome2) n. leaving vector (four t0 t1 o.second o.first) o n) e s
+  on_3 (two call) e s = ap₂ (λ (o : Outcome2) n. leaving vector (four t0 t1 o.second o.first) o n) e s
 
 -- the containers and the answer that the code has once the operation is done
 module _ (t : Trays) where
-  pub ring-second : (op : RingOp) (second : Bool) (d : RingDid) (x : Answer) → second ≡ true
-      → RingDoes op t.ring1 t.ring0 d → x ≡ ringAnswer d
-      → ◌≡◌ {A = Acts} (record { world = ringHere d.other ∷ ringHere d.me ∷ vectorHere t.vector2 ∷ vectorHere t.vector3 ∷ []; answer = x }) (acts (world t) (Call.Ring second op))
+  pub ring_second : (op : RingOp) (second : Bool) (d : RingDid) (x : Answer) → second ≡ true
+      → RingDoes op t.ring1 t.ring0 d → x ≡ ring_answer d
+      → ◌≡◌ {A = Acts} (record { world = ring_here d.other ∷ ring_here d.me ∷ vector_here t.vector2 ∷ vector_here t.vector3 ∷ []; answer = x }) (acts (world t) (Call.Ring second op))
   unfolding acts
-  ring-second op second d x es ed ex = rw (es, ex) (on-1 _ _ _ _ (ringsSeen d) d.slot (ringAct op) ed.row ed.slot)
+  ring_second op second d x es ed ex = rw (es, ex) (on_1 _ _ _ _ (rings_seen d) d.slot (ring_act op) ed.row ed.slot)
 
-  pub ring-first : (op : RingOp) (second : Bool) (d : RingDid) (x : Answer) → second ≡ false
-      → RingDoes op t.ring0 t.ring1 d → x ≡ ringAnswer d
-      → ◌≡◌ {A = Acts} (record { world = ringHere d.me ∷ ringHere d.other ∷ vectorHere t.vector2 ∷ vectorHere t.vector3 ∷ []; answer = x }) (acts (world t) (Call.Ring second op))
+  pub ring_first : (op : RingOp) (second : Bool) (d : RingDid) (x : Answer) → second ≡ false
+      → RingDoes op t.ring0 t.ring1 d → x ≡ ring_answer d
+      → ◌≡◌ {A = Acts} (record { world = ring_here d.me ∷ ring_here d.other ∷ vector_here t.vector2 ∷ vector_here t.vector3 ∷ []; answer = x }) (acts (world t) (Call.Ring second op))
   unfolding acts
-  ring-first op second d x es ed ex = rw (es, ex) (on-0 _ _ _ _ (ringsSeen d) d.slot (ringAct op) ed.row ed.slot)
+  ring_first op second d x es ed ex = rw (es, ex) (on_0 _ _ _ _ (rings_seen d) d.slot (ring_act op) ed.row ed.slot)
 
-  pub vector-second : (op : VectorOp) (second : Bool) (d : VectorDid) (x : Answer) → second ≡ true
-      → VectorDoes op t.vector3 t.vector2 d → x ≡ vectorAnswer d
-      → ◌≡◌ {A = Acts} (record { world = ringHere t.ring0 ∷ ringHere t.ring1 ∷ vectorHere d.other ∷ vectorHere d.me ∷ []; answer = x }) (acts (world t) (Call.Vector second op))
+  pub vector_second : (op : VectorOp) (second : Bool) (d : VectorDid) (x : Answer) → second ≡ true
+      → VectorDoes op t.vector3 t.vector2 d → x ≡ vector_answer d
+      → ◌≡◌ {A = Acts} (record { world = ring_here t.ring0 ∷ ring_here t.ring1 ∷ vector_here d.other ∷ vector_here d.me ∷ []; answer = x }) (acts (world t) (Call.Vector second op))
   unfolding acts
-  vector-second op second d x es ed ex = rw (es, ex) (on-3 _ _ _ _ (vectorsSeen d) d.slot (vectorAct op) ed.row ed.slot)
+  vector_second op second d x es ed ex = rw (es, ex) (on_3 _ _ _ _ (vectors_seen d) d.slot (vector_act op) ed.row ed.slot)
 
-  pub vector-first : (op : VectorOp) (second : Bool) (d : VectorDid) (x : Answer) → second ≡ false
-      → VectorDoes op t.vector2 t.vector3 d → x ≡ vectorAnswer d
-      → ◌≡◌ {A = Acts} (record { world = ringHere t.ring0 ∷ ringHere t.ring1 ∷ vectorHere d.me ∷ vectorHere d.other ∷ []; answer = x }) (acts (world t) (Call.Vector second op))
+  pub vector_first : (op : VectorOp) (second : Bool) (d : VectorDid) (x : Answer) → second ≡ false
+      → VectorDoes op t.vector2 t.vector3 d → x ≡ vector_answer d
+      → ◌≡◌ {A = Acts} (record { world = ring_here t.ring0 ∷ ring_here t.ring1 ∷ vector_here d.me ∷ vector_here d.other ∷ []; answer = x }) (acts (world t) (Call.Vector second op))
   unfolding acts
-  vector-first op second d x es ed ex = rw (es, ex) (on-2 _ _ _ _ (vectorsSeen d) d.slot (vectorAct op) ed.row ed.slot)
+  vector_first op second d x es ed ex = rw (es, ex) (on_2 _ _ _ _ (vectors_seen d) d.slot (vector_act op) ed.row ed.slot)
 
 -- the four makings
-pub four-made : (r0 r1 : HeldRing) (v2 v3 : HeldVector)
-    → (ringHere r0).tray ≡ (made ring new free).tray → (ringHere r1).tray ≡ (made ring new free).tray
-    → (vectorHere v2).tray ≡ (made vector new free).tray → (vectorHere v3).tray ≡ (made vector new free).tray
-    → ringHere r0 ∷ ringHere r1 ∷ vectorHere v2 ∷ vectorHere v3 ∷ [] ≡ begun
+pub four_made : (r0 r1 : HeldRing) (v2 v3 : HeldVector)
+    → (ring_here r0).tray ≡ (made ring new free).tray → (ring_here r1).tray ≡ (made ring new free).tray
+    → (vector_here v2).tray ≡ (made vector new free).tray → (vector_here v3).tray ≡ (made vector new free).tray
+    → ring_here r0 ∷ ring_here r1 ∷ vector_here v2 ∷ vector_here v3 ∷ [] ≡ begun
 unfolding begun
-four-made r0 r1 v2 v3 e0 e1 e2 e3 =
-    ap (λ x. four x (ringHere r1).tray (vectorHere v2).tray (vectorHere v3).tray) e0
-    ∙ ap (λ x. four (made ring new free).tray x (vectorHere v2).tray (vectorHere v3).tray) e1
-    ∙ ap (λ x. four (made ring new free).tray (made ring new free).tray x (vectorHere v3).tray) e2
+four_made r0 r1 v2 v3 e0 e1 e2 e3 =
+    ap (λ x. four x (ring_here r1).tray (vector_here v2).tray (vector_here v3).tray) e0
+    ∙ ap (λ x. four (made ring new free).tray x (vector_here v2).tray (vector_here v3).tray) e1
+    ∙ ap (λ x. four (made ring new free).tray (made ring new free).tray x (vector_here v3).tray) e2
     ∙ ap (λ x. four (made ring new free).tray (made ring new free).tray (made vector new free).tray x) e3

@@ -5,21 +5,21 @@ use mathlib.Core.Bool.{cond}
 use mathlib.Core.List.{List, [], ◌∷◌}
 use Prim.Native.Nat.{ℕ}
 use Rattle.slots.specs.Layout.{Kind, ring, vector}
-use Rattle.tray_lines.specs.Lines.{ringOps, vectorOps}
-use Rattle.tray_lines.specs.Acts.{Act, hasAct, operations, ringAct, vectorAct}
+use Rattle.tray_lines.specs.Lines.{ring_ops, vector_ops}
+use Rattle.tray_lines.specs.Acts.{Act, has_act, operations, ring_act, vector_act}
 
 -- those of a table that a kind has
 abbrev pub having : Kind → List (ℕ × Act) → List (ℕ × Act)
 having k [] = []
-having k (row ∷ rest) = cond (hasAct row.1 k) (row ∷ having k rest) (having k rest)
+having k (row ∷ rest) = cond (has_act row.1 k) (row ∷ having k rest) (having k rest)
 
 -- a table of the code's operations, each as what it is in the table
-abbrev pub asActs : {A : Type 0} → (A → Act) → List (ℕ × A) → List (ℕ × Act)
-asActs act [] = []
-asActs act (row ∷ rest) = (row.0, act row.1) ∷ asActs act rest
+abbrev pub as_acts : {A : Type 0} → (A → Act) → List (ℕ × A) → List (ℕ × Act)
+as_acts act [] = []
+as_acts act (row ∷ rest) = (row.0, act row.1) ∷ as_acts act rest
 
-pub ring-known : (i x : ℕ) → asActs ringAct (ringOps i x) ≡ having ring (operations i x)
-ring-known i x = refl
+pub ring_known : (i x : ℕ) → as_acts ring_act (ring_ops i x) ≡ having ring (operations i x)
+ring_known i x = refl
 
-pub vector-known : (i x : ℕ) → asActs vectorAct (vectorOps i x) ≡ having vector (operations i x)
-vector-known i x = refl
+pub vector_known : (i x : ℕ) → as_acts vector_act (vector_ops i x) ≡ having vector (operations i x)
+vector_known i x = refl

@@ -8,19 +8,19 @@ use lib.Seq.{take-append_seam}
 use contract.Lifetimes.{Lfts}
 use denote.Triple.Clauses.{AtExit}
 use borrow.Fn.World.{ArgsD, ResD}
-use Rattle.digits.proofs.Puts.{put-read}
+use Rattle.digits.proofs.Puts.{put_read}
 use Rattle.table.specs.Ledger.{modelled, entered, handed, dropped}
-use Rattle.table.specs.World.{World, lines, held, standingAll}
+use Rattle.table.specs.World.{World, lines, held, standing_all}
 use Rattle.tray_lines.specs.declared.acts.Trays.{Trays}
 use Rattle.tray_lines.specs.declared.feeds.State.{State}
 use Rattle.tray_lines.specs.Seen.{world}
 use Rattle.tray_lines.specs.Acts.{begun}
 use Rattle.tray_lines.specs.Answers.{Tells, tells}
-use Rattle.tray_lines.specs.Feeds.{Midway, Feeds, Kept, fresh, feeds, keeping, ends, midway, Ends, endsInto, endedSeen, Fills, room, fills}
+use Rattle.tray_lines.specs.Feeds.{Midway, Feeds, Kept, fresh, feeds, keeping, ends, midway, Ends, ends_into, ended_seen, Fills, room, fills}
 use Rattle.tray_lines.specs.Runs.{lines_of, finished, answered, after, happened}
-use Rattle.tray_lines.proofs.Fed.{feeds-fit, ends-few}
-use Rattle.tray_lines.proofs.Blocks.{then, feeds-join, run-so-far, run-answers}
-use Rattle.tray_lines.proofs.Balance.{lines-model, lines-balance}
+use Rattle.tray_lines.proofs.Fed.{feeds_fit, ends_few}
+use Rattle.tray_lines.proofs.Blocks.{then, feeds_join, run_so_far, run_answers}
+use Rattle.tray_lines.proofs.Balance.{lines_model, lines_balance}
 use Rattle.tray_lines.specs.contracts.acts.start as start·fn
 use Rattle.tray_lines.proofs.acts.start.Reads as start·reads
 use Rattle.tray_lines.specs.contracts.answers.tell as tell·fn
@@ -54,15 +54,15 @@ told-after (line {t} {ls} κs a r e before same learnt) =
 
 -- the balance of some lines, where the program stands after them
 balance : (ls : List (List ℕ)) {w : World} → w ≡ after begun ls → (x : ℕ)
-    → entered x [] (lines (happened ls)) ≡ handed x [] (lines (happened ls)) + dropped x [] (lines (happened ls)) + standingAll x w
+    → entered x [] (lines (happened ls)) ≡ handed x [] (lines (happened ls)) + dropped x [] (lines (happened ls)) + standing_all x w
 balance ls e x =
-    lines-balance ls x
-    ∙ ap (λ (w : World). handed x [] (lines (happened ls)) + dropped x [] (lines (happened ls)) + standingAll x w) (sym e)
+    lines_balance ls x
+    ∙ ap (λ (w : World). handed x [] (lines (happened ls)) + dropped x [] (lines (happened ls)) + standing_all x w) (sym e)
 
 -- DEMAND 3 OF ANY LINES THAT ARE TOLD.
-pub demand-3-of-lines : {t : Trays} {ls : List (List ℕ)} → Told t ls → (x : ℕ)
-    → entered x [] (lines (happened ls)) ≡ handed x [] (lines (happened ls)) + dropped x [] (lines (happened ls)) + standingAll x (world t)
-demand-3-of-lines {t} {ls} told x = balance ls (told-after told) x
+pub demand_3_of_lines : {t : Trays} {ls : List (List ℕ)} → Told t ls → (x : ℕ)
+    → entered x [] (lines (happened ls)) ≡ handed x [] (lines (happened ls)) + dropped x [] (lines (happened ls)) + standing_all x (world t)
+demand_3_of_lines {t} {ls} told x = balance ls (told-after told) x
 
 -- `start` and `fresh` were called, and then `feed`, any number of times, with the state last returned: the bytes that were taken, and those
 -- that were answered.
@@ -80,15 +80,15 @@ taken : (k : ℕ) (l : List ℕ) → take (length (take k l)) l ≡ take k l
 taken k l = ap (take (length (take k l))) (sym (take-append-drop k l)) ∙ take-append_seam (take k l) (drop k l)
 
 -- the state after a run of bytes, and what was answered
-abbrev fedTo : (s : State) (input out : List ℕ) → Type 0
-fedTo s input out = feeds keeping (fresh keeping begun) input ≡ record { state = midway s; out = out }
+abbrev fed_to : (s : State) (input out : List ℕ) → Type 0
+fed_to s input out = feeds keeping (fresh keeping begun) input ≡ record { state = midway s; out = out }
 
-fed-is : {s : State} {input out : List ℕ} → Fed s input out → fedTo s input out
+fed_is : {s : State} {input out : List ℕ} → Fed s input out → fed_to s input out
 unfolding feeds fills
-fed-is (started κs a t e made κs2 a2 r e2 same learnt) =
+fed_is (started κs a t e made κs2 a2 r e2 same learnt) =
     ap (λ (m : Midway Kept). record { state = m; out = [] })
     (ap (fresh keeping) (sym (ap world same ∙ made)) ∙ sym learnt)
-fed-is (block {s} {input} {out} κs a r e before same learnt) =
+fed_is (block {s} {input} {out} κs a r e before same learnt) =
     let given : List ℕ = a.1.0.now in
     let text : List ℕ = a.1.1.0.now in
     let part : List ℕ = take (room given text) given in
@@ -97,63 +97,63 @@ fed-is (block {s} {input} {out} κs a r e before same learnt) =
     learnt ∙ ap (λ (u : State). fills (midway u) given text) same
     in
     let took : take r.took given ≡ part = ap (λ (x : Fills). take x.took given) is ∙ taken (room given text) given in
-    let put : take r.count e.1.1.0.now ≡ f.out = ap (λ (x : Fills). take x.count x.out) is ∙ put-read text f.out (feeds-fit (midway s) given text) in
+    let put : take r.count e.1.1.0.now ≡ f.out = ap (λ (x : Fills). take x.count x.out) is ∙ put_read text f.out (feeds_fit (midway s) given text) in
     let state : midway r.state ≡ f.state = ap (λ (x : Fills). x.state) is in
-    let old : fedTo s input out = fed-is before in
+    let old : fed_to s input out = fed_is before in
     ap (λ (l : List ℕ). feeds keeping (fresh keeping begun) (input ++ l)) took
-    ∙ feeds-join keeping (fresh keeping begun) input part
+    ∙ feeds_join keeping (fresh keeping begun) input part
     ∙ ap (λ (x : Feeds Kept). then x (feeds keeping x.state part)) old
     ∙ cc (put, state)
 
 -- WHERE THE PROGRAM STANDS after some bytes, whatever took it there: the lines that an LF ended have made its world, and demand 3 holds of it. That it
--- stands there is promised by `run` of the program `tray`, and follows of whoever calls `feed` (`fed-there`).
+-- stands there is promised by `run` of the program `tray`, and follows of whoever calls `feed` (`fed_there`).
 abbrev pub Stands : (s : State) (input : List ℕ) → Type 0
 Stands s input = midway s ≡ (feeds keeping (fresh keeping begun) input).state
 
-pub fed-there : {s : State} {input out : List ℕ} → Fed s input out → Stands s input
-fed-there fed = sym (ap (λ (f : Feeds Kept). f.state) (fed-is fed))
+pub fed_there : {s : State} {input out : List ℕ} → Fed s input out → Stands s input
+fed_there fed = sym (ap (λ (f : Feeds Kept). f.state) (fed_is fed))
 
 module _ (s : State) (input : List ℕ) (there : Stands s input) where
-  pub world-so-far : world s.trays ≡ after begun (finished [] input)
-  world-so-far = ap (λ (m : Midway Kept). m.world) there ∙ (run-so-far begun input).1
+  pub world_so_far : world s.trays ≡ after begun (finished [] input)
+  world_so_far = ap (λ (m : Midway Kept). m.world) there ∙ (run_so_far begun input).1
 
-  pub demand-3-so-far : (x : ℕ)
+  pub demand_3_so_far : (x : ℕ)
       → entered x [] (lines (happened (finished [] input)))
-      ≡ handed x [] (lines (happened (finished [] input))) + dropped x [] (lines (happened (finished [] input))) + standingAll x (world s.trays)
-  demand-3-so-far x = balance (finished [] input) world-so-far x
+      ≡ handed x [] (lines (happened (finished [] input))) + dropped x [] (lines (happened (finished [] input))) + standing_all x (world s.trays)
+  demand_3_so_far x = balance (finished [] input) world_so_far x
 
   -- At the end, where `ended` is called: the last line counts too, if it isn't empty.
   module _ (κs : Lfts 0) (a : ArgsD ended·fn.signature κs) (r : ResD ended·fn.signature κs) (e : AtExit ended·fn.ended κs)
       (same : a.0 ≡ s) (learnt : ended·reads.Learnt κs a r e) where
-    finish : ◌≡◌ {A = Ends} (endedSeen r) (endsInto (ends keeping (feeds keeping (fresh keeping begun) input).state))
-    finish = learnt ∙ ap (λ (u : State). endsInto (ends keeping (midway u))) same ∙ ap (λ (m : Midway Kept). endsInto (ends keeping m)) there
+    finish : ◌≡◌ {A = Ends} (ended_seen r) (ends_into (ends keeping (feeds keeping (fresh keeping begun) input).state))
+    finish = learnt ∙ ap (λ (u : State). ends_into (ends keeping (midway u))) same ∙ ap (λ (m : Midway Kept). ends_into (ends keeping m)) there
 
-    last-answer : take r.count r.text ≡ (ends keeping (feeds keeping (fresh keeping begun) input).state).text
-    last-answer =
+    last_answer : take r.count r.text ≡ (ends keeping (feeds keeping (fresh keeping begun) input).state).text
+    last_answer =
         let end : Tells = ends keeping (feeds keeping (fresh keeping begun) input).state in
         ap (λ (x : Ends). take x.count x.text) finish
-        ∙ put-read (replicate 27 0) end.text (ends-few (feeds keeping (fresh keeping begun) input).state)
+        ∙ put_read (replicate 27 0) end.text (ends_few (feeds keeping (fresh keeping begun) input).state)
 
-    pub world-at-end : world r.trays ≡ after begun (lines_of [] input)
-    world-at-end = ap (λ (x : Ends). x.world) finish ∙ (run-answers begun input).1
+    pub world_at_end : world r.trays ≡ after begun (lines_of [] input)
+    world_at_end = ap (λ (x : Ends). x.world) finish ∙ (run_answers begun input).1
 
-    pub demand-3-at-end : (x : ℕ)
+    pub demand_3_at_end : (x : ℕ)
         → entered x [] (lines (happened (lines_of [] input)))
-        ≡ handed x [] (lines (happened (lines_of [] input))) + dropped x [] (lines (happened (lines_of [] input))) + standingAll x (world r.trays)
-    demand-3-at-end x = balance (lines_of [] input) world-at-end x
+        ≡ handed x [] (lines (happened (lines_of [] input))) + dropped x [] (lines (happened (lines_of [] input))) + standing_all x (world r.trays)
+    demand_3_at_end x = balance (lines_of [] input) world_at_end x
 
     -- and the model lists that it counts over are what the slots hold
-    pub models-at-end : held (world r.trays) ≡ modelled [] (lines (happened (lines_of [] input)))
-    models-at-end = ap held world-at-end ∙ lines-model (lines_of [] input)
+    pub models_at_end : held (world r.trays) ≡ modelled [] (lines (happened (lines_of [] input)))
+    models_at_end = ap held world_at_end ∙ lines_model (lines_of [] input)
 
 -- WHAT IS ANSWERED to bytes that are fed: the lines that an LF ended, in their order; and at the end, the last line's answer among them, all lines.
 module _ {s : State} {input out : List ℕ} (fed : Fed s input out) where
-  fed-out : (feeds keeping (fresh keeping begun) input).out ≡ out
-  fed-out = ap (λ (f : Feeds Kept). f.out) (fed-is fed)
+  fed_out : (feeds keeping (fresh keeping begun) input).out ≡ out
+  fed_out = ap (λ (f : Feeds Kept). f.out) (fed_is fed)
 
-  pub answers-so-far : out ≡ answered begun (finished [] input)
-  answers-so-far = sym fed-out ∙ (run-so-far begun input).0
+  pub answers_so_far : out ≡ answered begun (finished [] input)
+  answers_so_far = sym fed_out ∙ (run_so_far begun input).0
 
-  pub tray-answers : (κs : Lfts 0) (a : ArgsD ended·fn.signature κs) (r : ResD ended·fn.signature κs) (e : AtExit ended·fn.ended κs)
+  pub tray_answers : (κs : Lfts 0) (a : ArgsD ended·fn.signature κs) (r : ResD ended·fn.signature κs) (e : AtExit ended·fn.ended κs)
       → a.0 ≡ s → ended·reads.Learnt κs a r e → out ++ take r.count r.text ≡ answered begun (lines_of [] input)
-  tray-answers κs a r e same learnt = cc (last-answer s input (fed-there fed) κs a r e same learnt, fed-out, (run-answers begun input).0)
+  tray_answers κs a r e same learnt = cc (last_answer s input (fed_there fed) κs a r e same learnt, fed_out, (run_answers begun input).0)

@@ -23,14 +23,14 @@ pub record Tells : Type 0 where
   pub world : World
   pub text : List ℕ
 
-abbrev pub tellsOf : World → Said → Tells
-tellsOf w (Said.Call c) = record { world = (acts w c).world; text = line_of (acts w c).answer }
-tellsOf w Said.Garbled = record { world = w; text = line_of (bare 7) }
-tellsOf w Said.Unknown = record { world = w; text = line_of (bare 8) }
+abbrev pub tells_of : World → Said → Tells
+tells_of w (Said.Call c) = record { world = (acts w c).world; text = line_of (acts w c).answer }
+tells_of w Said.Garbled = record { world = w; text = line_of (bare 7) }
+tells_of w Said.Unknown = record { world = w; text = line_of (bare 8) }
 
 unfoldable pub tells : World → (line : List ℕ) → Tells
-tells w line = tellsOf w (said line)
+tells w line = tells_of w (said line)
 
 -- how the code's answer is read
-abbrev pub toldSeen : Told → Tells
-toldSeen t = record { world = Seen.world t.trays; text = t.text }
+abbrev pub told_seen : Told → Tells
+told_seen t = record { world = Seen.world t.trays; text = t.text }

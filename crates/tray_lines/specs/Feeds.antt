@@ -87,11 +87,11 @@ pub record Ends : Type 0 where
   pub text : List ℕ
   pub count : ℕ
 
-abbrev pub endsInto : Tells → Ends
-endsInto t = record { world = t.world; text = put (replicate 27 0) 0 t.text; count = length t.text }
+abbrev pub ends_into : Tells → Ends
+ends_into t = record { world = t.world; text = put (replicate 27 0) 0 t.text; count = length t.text }
 
-abbrev pub endedSeen : Finish → Ends
-endedSeen e = record { world = Seen.world e.trays; text = e.text; count = e.count }
+abbrev pub ended_seen : Finish → Ends
+ended_seen e = record { world = Seen.world e.trays; text = e.text; count = e.count }
 
 -- a run of bytes fed: the state, how many bytes were taken, and all of the lent text with the count of bytes put at its start
 pub record Fills : Type 0 where
@@ -100,8 +100,8 @@ pub record Fills : Type 0 where
   pub count : ℕ
   pub out : List ℕ
 
-abbrev pub fillsAll : Midway Kept → (input out : List ℕ) → Fills
-fillsAll s input out = record {
+abbrev pub fills_all : Midway Kept → (input out : List ℕ) → Fills
+fills_all s input out = record {
   state = (feeds keeping s input).state;
   took = length input;
   count = length (feeds keeping s input).out;
@@ -113,10 +113,10 @@ abbrev pub room : (input out : List ℕ) → ℕ
 room input out = cond (ltb (length out / 27) (length input)) (length out / 27) (length input)
 
 unfoldable pub fills : Midway Kept → (input out : List ℕ) → Fills
-fills s input out = fillsAll s (take (room input out) input) out
+fills s input out = fills_all s (take (room input out) input) out
 
-abbrev pub fedSeen : Fed → (out : List ℕ) → Fills
-fedSeen f out = record { state = midway f.state; took = f.took; count = f.count; out = out }
+abbrev pub fed_seen : Fed → (out : List ℕ) → Fills
+fed_seen f out = record { state = midway f.state; took = f.took; count = f.count; out = out }
 
 -- bytes put from a place of the text on: what the code's steps leave
 pub record Puts : Type 0 where
@@ -127,5 +127,5 @@ pub record Puts : Type 0 where
 abbrev pub puts : Feeds Kept → (out : List ℕ) (at : ℕ) → Puts
 puts f out at = record { state = f.state; at = at + length f.out; out = put out at f.out }
 
-abbrev pub stepSeen : Step → (out : List ℕ) → Puts
-stepSeen s out = record { state = midway s.state; at = s.at; out = out }
+abbrev pub step_seen : Step → (out : List ℕ) → Puts
+step_seen s out = record { state = midway s.state; at = s.at; out = out }

@@ -28,14 +28,14 @@ after w [] = w
 after w (l ∷ ls) = after (tells w l).world ls
 
 -- the events of a line and of a sequence of lines: one for each call, and none where a line is refused with 7 or 8
-abbrev pub eventsOf : World → Said → List Event
-eventsOf w (Said.Call c) = event w c ∷ []
-eventsOf w Said.Garbled = []
-eventsOf w Said.Unknown = []
+abbrev pub events_of : World → Said → List Event
+events_of w (Said.Call c) = event w c ∷ []
+events_of w Said.Garbled = []
+events_of w Said.Unknown = []
 
 abbrev pub calls : World → List (List ℕ) → List Event
 calls w [] = []
-calls w (l ∷ ls) = eventsOf w (said l) ++ calls (tells w l).world ls
+calls w (l ∷ ls) = events_of w (said l) ++ calls (tells w l).world ls
 
 -- all events of a run: the four makings, then the calls
 abbrev pub happened : List (List ℕ) → List Event

@@ -3,7 +3,7 @@ ghost use Rattle.std.specs.Prelude.{◌≡◌};
 ghost use Rattle.slots.specs.Layout.{ring, vector};
 ghost use Rattle.table.specs.Calls.{new};
 ghost use Rattle.table.specs.Does.{made};
-ghost use Rattle.tray_lines.specs.Seen.{ringState, vectorState, ringHere, vectorHere, world, RingDoes, VectorDoes, oneRing, oneVector, twoRings, twoVectors, ringAnswer, vectorAnswer, actedSeen};
+ghost use Rattle.tray_lines.specs.Seen.{ring_state, vector_state, ring_here, vector_here, world, RingDoes, VectorDoes, one_ring, one_vector, two_rings, two_vectors, ring_answer, vector_answer, acted_seen};
 ghost use Rattle.tray_lines.specs.Acts.{free, begun, acts};
 
 use crate::lines::{Call, RingOp, VectorOp};
@@ -77,19 +77,19 @@ pub struct Acted {
 
 // The state that a call gets.
 fn ring_of(h: HeldRing) -> Ring
-    ensures { result ≡ ringState h }
+    ensures { result ≡ ring_state h }
 {
     ring::state(h.head, h.len, total::none())
 }
 
 fn vector_of(h: HeldVector) -> Vector
-    ensures { result ≡ vectorState h }
+    ensures { result ≡ vector_state h }
 {
     vector::state(h.len, total::none())
 }
 
 fn new_ring() -> HeldRing
-    ensures { (ringHere result).tray ≡ (made ring new free).tray }
+    ensures { (ring_here result).tray ≡ (made ring new free).tray }
 {
     let slots = [0u32; 4];
     let a = Ring::new(&slots);
@@ -102,7 +102,7 @@ fn new_ring() -> HeldRing
 }
 
 fn new_vector() -> HeldVector
-    ensures { (vectorHere result).tray ≡ (made vector new free).tray }
+    ensures { (vector_here result).tray ≡ (made vector new free).tray }
 {
     let slots = [0u32; 4];
     let a = Vector::new(&slots);
@@ -126,7 +126,7 @@ pub fn start() -> Trays
 }
 
 fn one_ring(a: ring::Answer, slots: [u32; 4], other: HeldRing) -> RingDid
-    ensures { result ≡ oneRing a slots other }
+    ensures { result ≡ one_ring a slots other }
 {
     let ring = a.ring;
     RingDid {
@@ -144,7 +144,7 @@ fn one_ring(a: ring::Answer, slots: [u32; 4], other: HeldRing) -> RingDid
 }
 
 fn one_vector(a: vector::Answer, slots: [u32; 4], other: HeldVector) -> VectorDid
-    ensures { result ≡ oneVector a slots other }
+    ensures { result ≡ one_vector a slots other }
 {
     let vector = a.vector;
     VectorDid {
@@ -161,7 +161,7 @@ fn one_vector(a: vector::Answer, slots: [u32; 4], other: HeldVector) -> VectorDi
 }
 
 fn two_rings(a: pairs::rings::Both, slots: [u32; 4], theirs: [u32; 4]) -> RingDid
-    ensures { result ≡ twoRings a slots theirs }
+    ensures { result ≡ two_rings a slots theirs }
 {
     let first = a.first;
     let second = a.second;
@@ -184,7 +184,7 @@ fn two_rings(a: pairs::rings::Both, slots: [u32; 4], theirs: [u32; 4]) -> RingDi
 }
 
 fn two_vectors(a: pairs::vectors::Both, slots: [u32; 4], theirs: [u32; 4]) -> VectorDid
-    ensures { result ≡ twoVectors a slots theirs }
+    ensures { result ≡ two_vectors a slots theirs }
 {
     let first = a.first;
     let second = a.second;
@@ -258,7 +258,7 @@ pub fn on_vector(op: VectorOp, me: HeldVector, other: HeldVector) -> VectorDid
 }
 
 fn ring_answer(d: RingDid) -> Answer
-    ensures { result ≡ ringAnswer d }
+    ensures { result ≡ ring_answer d }
 {
     Answer {
         number: d.number,
@@ -271,7 +271,7 @@ fn ring_answer(d: RingDid) -> Answer
 }
 
 fn vector_answer(d: VectorDid) -> Answer
-    ensures { result ≡ vectorAnswer d }
+    ensures { result ≡ vector_answer d }
 {
     Answer {
         number: d.number,
@@ -284,7 +284,7 @@ fn vector_answer(d: VectorDid) -> Answer
 }
 
 fn act_ring(trays: Trays, second: bool, op: RingOp) -> Acted
-    ensures { actedSeen result ≡ acts (world trays) (Call.Ring second op) }
+    ensures { acted_seen result ≡ acts (world trays) (Call.Ring second op) }
 {
     let ring0 = trays.ring0;
     let ring1 = trays.ring1;
@@ -319,7 +319,7 @@ fn act_ring(trays: Trays, second: bool, op: RingOp) -> Acted
 }
 
 fn act_vector(trays: Trays, second: bool, op: VectorOp) -> Acted
-    ensures { actedSeen result ≡ acts (world trays) (Call.Vector second op) }
+    ensures { acted_seen result ≡ acts (world trays) (Call.Vector second op) }
 {
     let ring0 = trays.ring0;
     let ring1 = trays.ring1;
@@ -355,7 +355,7 @@ fn act_vector(trays: Trays, second: bool, op: VectorOp) -> Acted
 
 // What a call does to the containers, and what it answers.
 pub fn act(trays: Trays, call: Call) -> Acted
-    ensures { actedSeen result ≡ acts (world trays) call }
+    ensures { acted_seen result ≡ acts (world trays) call }
 {
     match call {
         Call::Ring(second, op) => act_ring(trays, second, op),

@@ -1,7 +1,7 @@
 // What a line is answered: the line's call is done, and its answer is put as hexadecimal digits.
 ghost use Rattle.std.specs.Prelude.{◌≡◌};
 ghost use Rattle.tray_lines.specs.Seen.{world};
-ghost use Rattle.tray_lines.specs.Answers.{bare, line_of, tells, toldSeen};
+ghost use Rattle.tray_lines.specs.Answers.{bare, line_of, tells, told_seen};
 
 use crate::acts::{Answer, Trays};
 use crate::lines::Said;
@@ -43,7 +43,7 @@ fn line_of(a: Answer) -> [u8; 27]
 
 // The whole meaning of a line: the containers after it, and what is answered.
 pub fn tell(trays: Trays, line: &[u8]) -> Told
-    ensures { toldSeen result ≡ tells (world trays) line.now }
+    ensures { told_seen result ≡ tells (world trays) line.now }
 {
     match crate::lines::parse(line) {
         Said::Call(c) => {

@@ -2,8 +2,8 @@
 ghost use Rattle.std.specs.Prelude.{◌≡◌, ◌+◌, ◌*◌, ◌≤◌, length, take};
 ghost use Rattle.digits.specs.Put.{put};
 ghost use Rattle.tray_lines.specs.Seen.{world};
-ghost use Rattle.tray_lines.specs.Answers.{tells, toldSeen};
-ghost use Rattle.tray_lines.specs.Feeds.{fresh, takes, keeping, ends, midway, endsInto, endedSeen, fillsAll, fills, fedSeen, puts, stepSeen};
+ghost use Rattle.tray_lines.specs.Answers.{tells, told_seen};
+ghost use Rattle.tray_lines.specs.Feeds.{fresh, takes, keeping, ends, midway, ends_into, ended_seen, fills_all, fills, fed_seen, puts, step_seen};
 
 use crate::acts::Trays;
 use crate::answers::Told;
@@ -70,7 +70,7 @@ fn keep(s: State, b: u8) -> State
 
 // The answer to the bytes kept of a line.
 fn answer_of(trays: Trays, line: &[u8], count: usize) -> Told
-    ensures { toldSeen result ≡ tells (world trays) (take count line.now) }
+    ensures { told_seen result ≡ tells (world trays) (take count line.now) }
 {
     if count < line.len() {
         return crate::answers::tell(trays, &line[0..count]);
@@ -80,7 +80,7 @@ fn answer_of(trays: Trays, line: &[u8], count: usize) -> Told
 
 // The end of the input: a line begun counts if it isn't empty.
 pub fn ended(s: State) -> Finish
-    ensures { endedSeen result ≡ endsInto (ends keeping (midway s)) }
+    ensures { ended_seen result ≡ ends_into (ends keeping (midway s)) }
 {
     let trays = s.trays;
     let line = s.line;
@@ -116,7 +116,7 @@ fn lay(out: &mut [u8], at: usize, text: [u8; 27])
 
 fn one(s: State, b: u8, out: &mut [u8], at: usize) -> Step
     requires { at + 27 ≤ length out.old }
-    ensures { stepSeen result out.new ≡ puts (takes keeping (midway s) b) out.old at }
+    ensures { step_seen result out.new ≡ puts (takes keeping (midway s) b) out.old at }
 {
     if b == 10 {
         let end = at + 27;
@@ -139,7 +139,7 @@ fn one(s: State, b: u8, out: &mut [u8], at: usize) -> Step
 
 fn feed_all(state: State, input: &[u8], out: &mut [u8]) -> Fed
     requires { 27 * length input.now ≤ length out.old }
-    ensures { fedSeen result out.new ≡ fillsAll (midway state) input.now out.old }
+    ensures { fed_seen result out.new ≡ fills_all (midway state) input.now out.old }
 {
     let mut s = state;
     let mut at = 0;
@@ -159,7 +159,7 @@ fn feed_all(state: State, input: &[u8], out: &mut [u8]) -> Fed
 
 // As many bytes are taken as the text has room for, 27 for each.
 pub fn feed(state: State, input: &[u8], out: &mut [u8]) -> Fed
-    ensures { fedSeen result out.new ≡ fills (midway state) input.now out.old }
+    ensures { fed_seen result out.new ≡ fills (midway state) input.now out.old }
 {
     let most = out.len() / 27;
     if most < input.len() {

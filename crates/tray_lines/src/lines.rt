@@ -1,6 +1,6 @@
 // What a line says: a call, held as a ring call or a vector call that holds its operation, or why the line is none.
 ghost use Rattle.std.specs.Prelude.{◌≡◌};
-ghost use Rattle.tray_lines.specs.Lines.{ringSays, vectorSays, callSays, said};
+ghost use Rattle.tray_lines.specs.Lines.{ring_says, vector_says, call_says, said};
 
 // The operations of a ring, with their arguments.
 #[derive(Drop)]
@@ -53,7 +53,7 @@ pub enum Said {
 }
 
 fn ring_said(second: bool, op: u64, i: usize, x: u32) -> Said
-    ensures { result ≡ ringSays second op i x }
+    ensures { result ≡ ring_says second op i x }
 {
     match op {
         1 => Said::Call(Call::Ring(second, RingOp::PushBack(x))),
@@ -74,7 +74,7 @@ fn ring_said(second: bool, op: u64, i: usize, x: u32) -> Said
 }
 
 fn vector_said(second: bool, op: u64, i: usize, x: u32) -> Said
-    ensures { result ≡ vectorSays second op i x }
+    ensures { result ≡ vector_says second op i x }
 {
     match op {
         1 => Said::Call(Call::Vector(second, VectorOp::Push(x))),
@@ -95,7 +95,7 @@ fn vector_said(second: bool, op: u64, i: usize, x: u32) -> Said
 
 // Rings 0 and 1, vectors 2 and 3.
 fn call_said(op: u64, container: u64, i: usize, x: u32) -> Said
-    ensures { result ≡ callSays op container i x }
+    ensures { result ≡ call_says op container i x }
 {
     match container {
         0 => ring_said(false, op, i, x),

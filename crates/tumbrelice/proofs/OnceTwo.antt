@@ -11,72 +11,72 @@ use Rattle.table.specs.Calls.{Call2}
 use Rattle.table.specs.Does.{Outcome2}
 use Rattle.record.specs.declared.texts.Told.{Told}
 use Rattle.record.specs.Unquoted.{Unquoted}
-use Rattle.tumbrelice.specs.Heard.{slotIn, movesIn, heard2, Held, Hears2, ringOf, vectorOf}
-use Rattle.tumbrelice.specs.HeardText.{HearsRecord, heardTold}
-use Rattle.tumbrelice.proofs.Once.{one_word, one-held}
+use Rattle.tumbrelice.specs.Heard.{slot_in, moves_in, heard2, Held, Hears2, ring_of, vector_of}
+use Rattle.tumbrelice.specs.HeardText.{HearsRecord, heard_told}
+use Rattle.tumbrelice.proofs.Once.{one_word, one_held}
 use Rattle.tumbrelice.proofs.two as two
 use Rattle.tumbrelice.proofs.compare as compare
 use Rattle.tumbrelice.proofs.records as records
 
 -- of a call on two, and of a record: o is its outcome, n and m are the totals
-one-two : (o : Outcome2) (n m : ℕ) (w w' : ℕ) (t t' t2 t2' : Held) → heard2 w t.tray t2.tray ≡ o → heard2 w' t'.tray t2'.tray ≡ o → slotIn w ≡ slotIn w'
+one_two : (o : Outcome2) (n m : ℕ) (w w' : ℕ) (t t' t2 t2' : Held) → heard2 w t.tray t2.tray ≡ o → heard2 w' t'.tray t2'.tray ≡ o → slot_in w ≡ slot_in w'
     → t.total ≡ n → t'.total ≡ n → t2.total ≡ m → t2'.total ≡ m → (w ≡ w') × (t ≡ t') × (t2 ≡ t2')
-one-two o n m w w' t t' t2 t2' p q slot first first' second second' =
+one_two o n m w w' t t' t2 t2' p q slot first first' second second' =
     let same = p ∙ sym q in (
       one_word w w' (ap (λ o. o.number) same) (ap (λ o. o.value) same) (ap (λ o. o.moves) same) slot,
-      one-held (ap (λ o. o.first) same) (first ∙ sym first'),
-      one-held (ap (λ o. o.second) same) (second ∙ sym second'),
+      one_held (ap (λ o. o.first) same) (first ∙ sym first'),
+      one_held (ap (λ o. o.second) same) (second ∙ sym second'),
     )
 
 one2 : {k k2 : Kind} {call : Call2} {b b2 : Held} (w w' : ℕ) (t t' t2 t2' : Held) → Hears2 k k2 call b b2 w t t2 → Hears2 k k2 call b b2 w' t' t2'
     → (w ≡ w') × (t ≡ t') × (t2 ≡ t2')
-one2 w w' t t' t2 t2' p q = one-two _ _ _ w w' t t' t2 t2' p.row q.row (p.slot ∙ sym q.slot) p.total q.total p.total2 q.total2
+one2 w w' t t' t2 t2' p q = one_two _ _ _ w w' t t' t2 t2' p.row q.row (p.slot ∙ sym q.slot) p.total q.total p.total2 q.total2
 
-one-record : {text : List ℕ} {b b2 : Held} (w w' : ℕ) (t t' t2 t2' : Held) → HearsRecord text b b2 w t t2 → HearsRecord text b b2 w' t' t2' → (w ≡ w') × (t ≡ t') × (t2 ≡ t2')
-one-record w w' t t' t2 t2' p q = one-two _ _ _ w w' t t' t2 t2' p.row q.row (p.slot ∙ sym q.slot) p.total q.total p.total2 q.total2
+one_record : {text : List ℕ} {b b2 : Held} (w w' : ℕ) (t t' t2 t2' : Held) → HearsRecord text b b2 w t t2 → HearsRecord text b b2 w' t' t2' → (w ≡ w') × (t ≡ t') × (t2 ≡ t2')
+one_record w w' t t' t2 t2' p q = one_two _ _ _ w w' t t' t2 t2' p.row q.row (p.slot ∙ sym q.slot) p.total q.total p.total2 q.total2
 
-one_told : (w w' : ℕ) → heardTold w ≡ heardTold w' → movesIn w ≡ 0 → movesIn w' ≡ 0 → slotIn w ≡ slotIn w' → w ≡ w'
+one_told : (w w' : ℕ) → heard_told w ≡ heard_told w' → moves_in w ≡ 0 → moves_in w' ≡ 0 → slot_in w ≡ slot_in w' → w ≡ w'
 one_told w w' same m m' slot = one_word w w' (ap (λ (a : Told). a.number) same) (ap (λ (a : Told). a.value) same) (m ∙ sym m') slot
 
 -- In what follows a are the arguments, r and r' are words, and e and e' the arguments as they are at the return.
 module _ (κs : Lfts 4) where
-  pub tum-ring-append-once : Twice two.tum_ring_append.ended κs (two.tum_ring_append.Reads.Learnt κs) (λ r e r' e'. (r ≡ r') × (ringOf e.1.0.now e.0.now ≡ ringOf e'.1.0.now e'.0.now) × (ringOf e.1.1.1.0.now e.1.1.0.now ≡ ringOf e'.1.1.1.0.now e'.1.1.0.now))
-  tum-ring-append-once a r r' e e' p q = one2 r r' _ _ _ _ p q
+  pub tum_ring_append_once : Twice two.tum_ring_append.ended κs (two.tum_ring_append.Reads.Learnt κs) (λ r e r' e'. (r ≡ r') × (ring_of e.1.0.now e.0.now ≡ ring_of e'.1.0.now e'.0.now) × (ring_of e.1.1.1.0.now e.1.1.0.now ≡ ring_of e'.1.1.1.0.now e'.1.1.0.now))
+  tum_ring_append_once a r r' e e' p q = one2 r r' _ _ _ _ p q
 
-  pub tum-ring-split-off-once : Twice two.tum_ring_split_off.ended κs (two.tum_ring_split_off.Reads.Learnt κs) (λ r e r' e'. (r ≡ r') × (ringOf e.1.0.now e.0.now ≡ ringOf e'.1.0.now e'.0.now) × (ringOf e.1.1.1.1.0.now e.1.1.1.0.now ≡ ringOf e'.1.1.1.1.0.now e'.1.1.1.0.now))
-  tum-ring-split-off-once a r r' e e' p q = one2 r r' _ _ _ _ p q
+  pub tum_ring_split_off_once : Twice two.tum_ring_split_off.ended κs (two.tum_ring_split_off.Reads.Learnt κs) (λ r e r' e'. (r ≡ r') × (ring_of e.1.0.now e.0.now ≡ ring_of e'.1.0.now e'.0.now) × (ring_of e.1.1.1.1.0.now e.1.1.1.0.now ≡ ring_of e'.1.1.1.1.0.now e'.1.1.1.0.now))
+  tum_ring_split_off_once a r r' e e' p q = one2 r r' _ _ _ _ p q
 
-  pub tum-ring-clone-once : Twice two.tum_ring_clone.ended κs (two.tum_ring_clone.Reads.Learnt κs) (λ r e r' e'. (r ≡ r') × (ringOf e.1.1.1.0.now e.1.1.0.now ≡ ringOf e'.1.1.1.0.now e'.1.1.0.now))
-  tum-ring-clone-once a r r' e e' p q = let all = one2 r r' _ _ _ _ p q in (all.0, all.2)
+  pub tum_ring_clone_once : Twice two.tum_ring_clone.ended κs (two.tum_ring_clone.Reads.Learnt κs) (λ r e r' e'. (r ≡ r') × (ring_of e.1.1.1.0.now e.1.1.0.now ≡ ring_of e'.1.1.1.0.now e'.1.1.0.now))
+  tum_ring_clone_once a r r' e e' p q = let all = one2 r r' _ _ _ _ p q in (all.0, all.2)
 
-  pub tum-vector-append-once : Twice two.tum_vector_append.ended κs (two.tum_vector_append.Reads.Learnt κs) (λ r e r' e'. (r ≡ r') × (vectorOf e.1.0.now e.0.now ≡ vectorOf e'.1.0.now e'.0.now) × (vectorOf e.1.1.1.0.now e.1.1.0.now ≡ vectorOf e'.1.1.1.0.now e'.1.1.0.now))
-  tum-vector-append-once a r r' e e' p q = one2 r r' _ _ _ _ p q
+  pub tum_vector_append_once : Twice two.tum_vector_append.ended κs (two.tum_vector_append.Reads.Learnt κs) (λ r e r' e'. (r ≡ r') × (vector_of e.1.0.now e.0.now ≡ vector_of e'.1.0.now e'.0.now) × (vector_of e.1.1.1.0.now e.1.1.0.now ≡ vector_of e'.1.1.1.0.now e'.1.1.0.now))
+  tum_vector_append_once a r r' e e' p q = one2 r r' _ _ _ _ p q
 
-  pub tum-vector-split-off-once : Twice two.tum_vector_split_off.ended κs (two.tum_vector_split_off.Reads.Learnt κs) (λ r e r' e'. (r ≡ r') × (vectorOf e.1.0.now e.0.now ≡ vectorOf e'.1.0.now e'.0.now) × (vectorOf e.1.1.1.1.0.now e.1.1.1.0.now ≡ vectorOf e'.1.1.1.1.0.now e'.1.1.1.0.now))
-  tum-vector-split-off-once a r r' e e' p q = one2 r r' _ _ _ _ p q
+  pub tum_vector_split_off_once : Twice two.tum_vector_split_off.ended κs (two.tum_vector_split_off.Reads.Learnt κs) (λ r e r' e'. (r ≡ r') × (vector_of e.1.0.now e.0.now ≡ vector_of e'.1.0.now e'.0.now) × (vector_of e.1.1.1.1.0.now e.1.1.1.0.now ≡ vector_of e'.1.1.1.1.0.now e'.1.1.1.0.now))
+  tum_vector_split_off_once a r r' e e' p q = one2 r r' _ _ _ _ p q
 
-  pub tum-vector-clone-once : Twice two.tum_vector_clone.ended κs (two.tum_vector_clone.Reads.Learnt κs) (λ r e r' e'. (r ≡ r') × (vectorOf e.1.1.1.0.now e.1.1.0.now ≡ vectorOf e'.1.1.1.0.now e'.1.1.0.now))
-  tum-vector-clone-once a r r' e e' p q = let all = one2 r r' _ _ _ _ p q in (all.0, all.2)
+  pub tum_vector_clone_once : Twice two.tum_vector_clone.ended κs (two.tum_vector_clone.Reads.Learnt κs) (λ r e r' e'. (r ≡ r') × (vector_of e.1.1.1.0.now e.1.1.0.now ≡ vector_of e'.1.1.1.0.now e'.1.1.0.now))
+  tum_vector_clone_once a r r' e e' p q = let all = one2 r r' _ _ _ _ p q in (all.0, all.2)
 
-  pub tum-ring-same-once : Twice compare.tum_ring_same.ended κs (compare.tum_ring_same.Reads.Learnt κs) (λ r e r' e'. r ≡ r')
-  tum-ring-same-once a r r' e e' p q = (one2 r r' _ _ _ _ p q).0
+  pub tum_ring_same_once : Twice compare.tum_ring_same.ended κs (compare.tum_ring_same.Reads.Learnt κs) (λ r e r' e'. r ≡ r')
+  tum_ring_same_once a r r' e e' p q = (one2 r r' _ _ _ _ p q).0
 
-  pub tum-vector-equal-once : Twice compare.tum_vector_equal.ended κs (compare.tum_vector_equal.Reads.Learnt κs) (λ r e r' e'. r ≡ r')
-  tum-vector-equal-once a r r' e e' p q = (one2 r r' _ _ _ _ p q).0
+  pub tum_vector_equal_once : Twice compare.tum_vector_equal.ended κs (compare.tum_vector_equal.Reads.Learnt κs) (λ r e r' e'. r ≡ r')
+  tum_vector_equal_once a r r' e e' p q = (one2 r r' _ _ _ _ p q).0
 
-  pub tum-ring-same-as-vector-once : Twice compare.tum_ring_same_as_vector.ended κs (compare.tum_ring_same_as_vector.Reads.Learnt κs) (λ r e r' e'. r ≡ r')
-  tum-ring-same-as-vector-once a r r' e e' p q = (one2 r r' _ _ _ _ p q).0
+  pub tum_ring_same_as_vector_once : Twice compare.tum_ring_same_as_vector.ended κs (compare.tum_ring_same_as_vector.Reads.Learnt κs) (λ r e r' e'. r ≡ r')
+  tum_ring_same_as_vector_once a r r' e e' p q = (one2 r r' _ _ _ _ p q).0
 
 module _ (κs : Lfts 5) where
-  pub tum-record-read-once : Twice records.tum_record_read.ended κs (records.tum_record_read.Reads.Learnt κs) (λ r e r' e'. (r ≡ r') × (vectorOf e.1.1.0.now e.1.0.now ≡ vectorOf e'.1.1.0.now e'.1.0.now) × (vectorOf e.1.1.1.1.0.now e.1.1.1.0.now ≡ vectorOf e'.1.1.1.1.0.now e'.1.1.1.0.now))
-  tum-record-read-once a r r' e e' p q = one-record r r' _ _ _ _ p q
+  pub tum_record_read_once : Twice records.tum_record_read.ended κs (records.tum_record_read.Reads.Learnt κs) (λ r e r' e'. (r ≡ r') × (vector_of e.1.1.0.now e.1.0.now ≡ vector_of e'.1.1.0.now e'.1.0.now) × (vector_of e.1.1.1.1.0.now e.1.1.1.0.now ≡ vector_of e'.1.1.1.1.0.now e'.1.1.1.0.now))
+  tum_record_read_once a r r' e e' p q = one_record r r' _ _ _ _ p q
 
 module _ (κs : Lfts 1) where
-  pub tum-record-judge-once : Twice records.tum_record_judge.ended κs (records.tum_record_judge.Reads.Learnt κs) (λ r e r' e'. r ≡ r')
-  tum-record-judge-once a r r' e e' p q = one_told r r' (p.row ∙ sym q.row) p.still q.still (p.slot ∙ sym q.slot)
+  pub tum_record_judge_once : Twice records.tum_record_judge.ended κs (records.tum_record_judge.Reads.Learnt κs) (λ r e r' e'. r ≡ r')
+  tum_record_judge_once a r r' e e' p q = one_told r r' (p.row ∙ sym q.row) p.still q.still (p.slot ∙ sym q.slot)
 
 module _ (κs : Lfts 2) where
-  pub tum-record-text-once : Twice records.tum_record_text.ended κs (records.tum_record_text.Reads.Learnt κs) (λ r e r' e'. (r ≡ r') × (e.1.1.1.0.now ≡ e'.1.1.1.0.now))
-  tum-record-text-once a r r' e e' p q =
+  pub tum_record_text_once : Twice records.tum_record_text.ended κs (records.tum_record_text.Reads.Learnt κs) (λ r e r' e'. (r ≡ r') × (e.1.1.1.0.now ≡ e'.1.1.1.0.now))
+  tum_record_text_once a r r' e e' p q =
       let same = p.row ∙ sym q.row in
       (one_told r r' (ap (λ (u : Unquoted). u.answer) same) p.still q.still (p.slot ∙ sym q.slot), ap (λ (u : Unquoted). u.out) same)

@@ -5,5 +5,5 @@ use Rattle.table.specs.Parts.{Part}
 abbrev pub part_of : (first count : ℕ) → Part
 part_of first count = record { start = first; count = count }
 
-abbrev pub partIn : (word : ℕ) → Part
-partIn word = part_of (word % 4294967296) (word / 4294967296)
+abbrev pub part_in : (word : ℕ) → Part
+part_in word = part_of (word % 4294967296) (word / 4294967296)

@@ -1,7 +1,7 @@
 // The comparisons: of two rings, of two vectors, of a ring with a vector. They only look, so neither states nor slots are written.
 ghost use Rattle.slots.specs.Layout.{ring, vector};
 ghost use Rattle.table.specs.Calls.{same};
-ghost use Rattle.tumbrelice.specs.Heard.{Hears2, ringOf, vectorOf};
+ghost use Rattle.tumbrelice.specs.Heard.{Hears2, ring_of, vector_of};
 
 use super::{ring_in, vector_in, word};
 
@@ -12,7 +12,7 @@ pub extern "C" fn tum_ring_same(
     theirs: &[u32],
     other: &[u64; 3],
 ) -> u64
-    ensures { Hears2 ring ring same (ringOf state.now slots.now) (ringOf other.now theirs.now) result (ringOf state.now slots.now) (ringOf other.now theirs.now) }
+    ensures { Hears2 ring ring same (ring_of state.now slots.now) (ring_of other.now theirs.now) result (ring_of state.now slots.now) (ring_of other.now theirs.now) }
 {
     let r = ring_in(state);
     let t = ring_in(other);
@@ -27,7 +27,7 @@ pub extern "C" fn tum_vector_equal(
     theirs: &[u32],
     other: &[u64; 2],
 ) -> u64
-    ensures { Hears2 vector vector same (vectorOf state.now slots.now) (vectorOf other.now theirs.now) result (vectorOf state.now slots.now) (vectorOf other.now theirs.now) }
+    ensures { Hears2 vector vector same (vector_of state.now slots.now) (vector_of other.now theirs.now) result (vector_of state.now slots.now) (vector_of other.now theirs.now) }
 {
     let v = vector_in(state);
     let t = vector_in(other);
@@ -42,7 +42,7 @@ pub extern "C" fn tum_ring_same_as_vector(
     theirs: &[u32],
     other: &[u64; 2],
 ) -> u64
-    ensures { Hears2 ring vector same (ringOf state.now slots.now) (vectorOf other.now theirs.now) result (ringOf state.now slots.now) (vectorOf other.now theirs.now) }
+    ensures { Hears2 ring vector same (ring_of state.now slots.now) (vector_of other.now theirs.now) result (ring_of state.now slots.now) (vector_of other.now theirs.now) }
 {
     let r = ring_in(state);
     let t = vector_in(other);

@@ -1,8 +1,8 @@
 // The stored form. Its writers only look at the container, whose state is not stored; its readers make one, and write the state as the makings do.
 ghost use Rattle.std.specs.Prelude.{◌≡◌, cond};
 ghost use Rattle.slots.specs.Layout.{ring, vector};
-ghost use Rattle.stored.specs.Judge.{judgeBy};
-ghost use Rattle.tumbrelice.specs.Heard.{ringOf, vectorOf};
+ghost use Rattle.stored.specs.Judge.{judge_by};
+ghost use Rattle.tumbrelice.specs.Heard.{ring_of, vector_of};
 ghost use Rattle.tumbrelice.specs.HeardText.{HearsStored, HearsRead};
 
 use super::{ring_in, ring_made, vector_in, vector_made, word};
@@ -10,7 +10,7 @@ use stored::{judges, readers};
 
 #[unsafe(no_mangle)]
 pub extern "C" fn tum_ring_text(slots: &[u32], state: &[u64; 3], text: &mut [u8]) -> u64
-    ensures { HearsStored ring (ringOf state.now slots.now) text.old result text.new }
+    ensures { HearsStored ring (ring_of state.now slots.now) text.old result text.new }
 {
     let r = ring_in(state);
     let told = stored::ring_text(r, slots, text);
@@ -19,7 +19,7 @@ pub extern "C" fn tum_ring_text(slots: &[u32], state: &[u64; 3], text: &mut [u8]
 
 #[unsafe(no_mangle)]
 pub extern "C" fn tum_vector_text(slots: &[u32], state: &[u64; 2], text: &mut [u8]) -> u64
-    ensures { HearsStored vector (vectorOf state.now slots.now) text.old result text.new }
+    ensures { HearsStored vector (vector_of state.now slots.now) text.old result text.new }
 {
     let v = vector_in(state);
     let a = stored::vector_text(v, slots, text);
@@ -28,7 +28,7 @@ pub extern "C" fn tum_vector_text(slots: &[u32], state: &[u64; 2], text: &mut [u
 
 #[unsafe(no_mangle)]
 pub extern "C" fn tum_ring_text_read(slots: &mut [u32], state: &mut [u64; 3], text: &[u8]) -> u64
-    ensures { HearsRead ring text.now slots.old result (ringOf state.new slots.new) }
+    ensures { HearsRead ring text.now slots.old result (ring_of state.new slots.new) }
 {
     let made = readers::ring_read(text, slots);
     *state = ring_made(made.ring);
@@ -37,7 +37,7 @@ pub extern "C" fn tum_ring_text_read(slots: &mut [u32], state: &mut [u64; 3], te
 
 #[unsafe(no_mangle)]
 pub extern "C" fn tum_vector_text_read(slots: &mut [u32], state: &mut [u64; 2], text: &[u8]) -> u64
-    ensures { HearsRead vector text.now slots.old result (vectorOf state.new slots.new) }
+    ensures { HearsRead vector text.now slots.old result (vector_of state.new slots.new) }
 {
     let read = readers::vector_read(text, slots);
     *state = vector_made(read.vector);
@@ -47,7 +47,7 @@ pub extern "C" fn tum_vector_text_read(slots: &mut [u32], state: &mut [u64; 2], 
 // Whether a text can be read, by a kind number of 64 bits, so that no other number is cut down to a kind: 1 is a yes, 0 a no.
 #[unsafe(no_mangle)]
 pub extern "C" fn tum_stored_check(text: &[u8], kind: u64) -> u64
-    ensures { result ≡ cond (judgeBy kind text.now) 1 0 }
+    ensures { result ≡ cond (judge_by kind text.now) 1 0 }
 {
     if judges::check(text, kind) {
         return 1;

@@ -15,8 +15,8 @@ mod walks; // walks.rt: a cursor's numbers, in and out
 
 ghost use Rattle.std.specs.Prelude.{◌≡◌, ◌^◌, ◌<◌, get_or};
 ghost use Rattle.slots.specs.Layout.{ring};
-ghost use Rattle.table.specs.Does.{headAfter};
-ghost use Rattle.tumbrelice.specs.Heard.{Worded, ringIn, ringOut, vectorIn, vectorOut, unlessRefused};
+ghost use Rattle.table.specs.Does.{head_after};
+ghost use Rattle.tumbrelice.specs.Heard.{Worded, ring_in, ring_out, vector_in, vector_out, unless_refused};
 
 use ring::Ring;
 use runs::total::Total;
@@ -24,7 +24,7 @@ use vector::Vector;
 
 // A ring's state goes in and comes out here, and a vector's below. That a total has 64 bits is said too, since a proof would have to look far for it.
 fn ring_in(state: &[u64; 3]) -> Ring
-    ensures { (result ≡ ringIn state.now) × (result.total.sum < 2 ^ 64) }
+    ensures { (result ≡ ring_in state.now) × (result.total.sum < 2 ^ 64) }
 {
     let sum = state[2];
     ring::state(state[0] as usize, state[1] as usize, Total { sum })
@@ -32,7 +32,7 @@ fn ring_in(state: &[u64; 3]) -> Ring
 
 // The numbers of a state.
 fn ring_made(r: Ring) -> [u64; 3]
-    ensures { result ≡ ringOut r }
+    ensures { result ≡ ring_out r }
 {
     let total = r.total;
     [r.head as u64, r.len as u64, total.sum]
@@ -40,7 +40,7 @@ fn ring_made(r: Ring) -> [u64; 3]
 
 // A call that is refused stores nothing.
 fn ring_out(state: &mut [u64; 3], number: u8, r: Ring)
-    ensures { state.new ≡ unlessRefused number (ringOut r) state.old }
+    ensures { state.new ≡ unless_refused number (ring_out r) state.old }
 {
     if number != 0 {
         return;
@@ -50,8 +50,8 @@ fn ring_out(state: &mut [u64; 3], number: u8, r: Ring)
 
 // The same of a call that leaves the head, or an empty ring: a head that stays is not stored, so that the next call need not wait for it.
 fn ring_stays(state: &mut [u64; 3], number: u8, r: Ring)
-    requires { number ≡ 0 → r.head ≡ headAfter ring r.len (get_or state.old 0 0) }
-    ensures { state.new ≡ unlessRefused number (ringOut r) state.old }
+    requires { number ≡ 0 → r.head ≡ head_after ring r.len (get_or state.old 0 0) }
+    ensures { state.new ≡ unless_refused number (ring_out r) state.old }
 {
     if number != 0 {
         return;
@@ -67,7 +67,7 @@ fn ring_stays(state: &mut [u64; 3], number: u8, r: Ring)
 // The same of a call that leaves the head and the length.
 fn ring_weighs(state: &mut [u64; 3], number: u8, r: Ring)
     requires { number ≡ 0 → (r.head ≡ get_or state.old 0 0) × (r.len ≡ get_or state.old 1 0) }
-    ensures { state.new ≡ unlessRefused number (ringOut r) state.old }
+    ensures { state.new ≡ unless_refused number (ring_out r) state.old }
 {
     if number != 0 {
         return;
@@ -77,21 +77,21 @@ fn ring_weighs(state: &mut [u64; 3], number: u8, r: Ring)
 }
 
 fn vector_in(state: &[u64; 2]) -> Vector
-    ensures { (result ≡ vectorIn state.now) × (result.total.sum < 2 ^ 64) }
+    ensures { (result ≡ vector_in state.now) × (result.total.sum < 2 ^ 64) }
 {
     let sum = state[1];
     vector::state(state[0] as usize, Total { sum })
 }
 
 fn vector_made(v: Vector) -> [u64; 2]
-    ensures { result ≡ vectorOut v }
+    ensures { result ≡ vector_out v }
 {
     let total = v.total;
     [v.len as u64, total.sum]
 }
 
 fn vector_out(state: &mut [u64; 2], number: u8, v: Vector)
-    ensures { state.new ≡ unlessRefused number (vectorOut v) state.old }
+    ensures { state.new ≡ unless_refused number (vector_out v) state.old }
 {
     if number != 0 {
         return;
@@ -101,7 +101,7 @@ fn vector_out(state: &mut [u64; 2], number: u8, v: Vector)
 
 fn vector_weighs(state: &mut [u64; 2], number: u8, v: Vector)
     requires { number ≡ 0 → v.len ≡ get_or state.old 0 0 }
-    ensures { state.new ≡ unlessRefused number (vectorOut v) state.old }
+    ensures { state.new ≡ unless_refused number (vector_out v) state.old }
 {
     if number != 0 {
         return;

@@ -1,7 +1,7 @@
 // The makings: they write the state and read nothing of it. A refused one writes 0 everywhere.
 ghost use Rattle.slots.specs.Layout.{ring, vector};
-ghost use Rattle.table.specs.Calls.{new, withCapacity, fromElem};
-ghost use Rattle.tumbrelice.specs.Heard.{HearsMade, ringOf, vectorOf};
+ghost use Rattle.table.specs.Calls.{new, with_capacity, from_elem};
+ghost use Rattle.tumbrelice.specs.Heard.{HearsMade, ring_of, vector_of};
 
 use super::{ring_made, vector_made, word};
 use ring::Ring;
@@ -9,7 +9,7 @@ use vector::Vector;
 
 #[unsafe(no_mangle)]
 pub extern "C" fn tum_ring_new(slots: &[u32], state: &mut [u64; 3]) -> u64
-    ensures { HearsMade ring new slots.now result (ringOf state.new slots.now) }
+    ensures { HearsMade ring new slots.now result (ring_of state.new slots.now) }
 {
     let a = Ring::new(slots);
     *state = ring_made(a.ring);
@@ -18,7 +18,7 @@ pub extern "C" fn tum_ring_new(slots: &[u32], state: &mut [u64; 3]) -> u64
 
 #[unsafe(no_mangle)]
 pub extern "C" fn tum_ring_with_capacity(slots: &[u32], state: &mut [u64; 3], k: usize) -> u64
-    ensures { HearsMade ring (withCapacity k) slots.now result (ringOf state.new slots.now) }
+    ensures { HearsMade ring (with_capacity k) slots.now result (ring_of state.new slots.now) }
 {
     let a = Ring::with_capacity(slots, k);
     *state = ring_made(a.ring);
@@ -27,7 +27,7 @@ pub extern "C" fn tum_ring_with_capacity(slots: &[u32], state: &mut [u64; 3], k:
 
 #[unsafe(no_mangle)]
 pub extern "C" fn tum_vector_new(slots: &[u32], state: &mut [u64; 2]) -> u64
-    ensures { HearsMade vector new slots.now result (vectorOf state.new slots.now) }
+    ensures { HearsMade vector new slots.now result (vector_of state.new slots.now) }
 {
     let a = Vector::new(slots);
     *state = vector_made(a.vector);
@@ -36,7 +36,7 @@ pub extern "C" fn tum_vector_new(slots: &[u32], state: &mut [u64; 2]) -> u64
 
 #[unsafe(no_mangle)]
 pub extern "C" fn tum_vector_with_capacity(slots: &[u32], state: &mut [u64; 2], k: usize) -> u64
-    ensures { HearsMade vector (withCapacity k) slots.now result (vectorOf state.new slots.now) }
+    ensures { HearsMade vector (with_capacity k) slots.now result (vector_of state.new slots.now) }
 {
     let a = Vector::with_capacity(slots, k);
     *state = vector_made(a.vector);
@@ -50,7 +50,7 @@ pub extern "C" fn tum_vector_from_elem(
     k: usize,
     x: u32,
 ) -> u64
-    ensures { HearsMade vector (fromElem k x) slots.old result (vectorOf state.new slots.new) }
+    ensures { HearsMade vector (from_elem k x) slots.old result (vector_of state.new slots.new) }
 {
     let a = Vector::from_elem(slots, k, x);
     *state = vector_made(a.vector);

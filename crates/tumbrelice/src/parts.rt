@@ -1,21 +1,21 @@
 // The parts that a vector lends, as a first slot and a count, in a word of their own: the first slot in the low 32 bits, the count in the high 32. A caller in C
 // has the slots, so nothing more is lent.
 ghost use Rattle.std.specs.Prelude.{◌≡◌, ◌<◌};
-ghost use Rattle.table.specs.Parts.{lends, lendsAll};
-ghost use Rattle.tumbrelice.specs.Heard.{vectorTray};
-ghost use Rattle.tumbrelice.specs.HeardPart.{partIn, part_of};
+ghost use Rattle.table.specs.Parts.{lends, lends_all};
+ghost use Rattle.tumbrelice.specs.Heard.{vector_tray};
+ghost use Rattle.tumbrelice.specs.HeardPart.{part_in, part_of};
 
 // The part of that many slots from first on.
 fn part(first: usize, count: usize) -> u64
     requires { (first < 4294967296) × (count < 4294967296) }
-    ensures { partIn result ≡ part_of first count }
+    ensures { part_in result ≡ part_of first count }
 {
     count as u64 * 4294967296 + first as u64
 }
 
 #[unsafe(no_mangle)]
 pub extern "C" fn tum_vector_range(slots: &[u32], state: &[u64; 2], a: usize, b: usize) -> u64
-    ensures { partIn result ≡ lends a b (vectorTray state.now slots.now) }
+    ensures { part_in result ≡ lends a b (vector_tray state.now slots.now) }
 {
     let cap = slots.len();
     let len = state[0] as usize;
@@ -30,35 +30,35 @@ pub extern "C" fn tum_vector_range(slots: &[u32], state: &[u64; 2], a: usize, b:
 
 #[unsafe(no_mangle)]
 pub extern "C" fn tum_vector_as_slice(slots: &[u32], state: &[u64; 2]) -> u64
-    ensures { partIn result ≡ lendsAll (vectorTray state.now slots.now) }
+    ensures { part_in result ≡ lends_all (vector_tray state.now slots.now) }
 {
     tum_vector_range(slots, state, 0, state[0] as usize)
 }
 
 #[unsafe(no_mangle)]
 pub extern "C" fn tum_vector_as_ref(slots: &[u32], state: &[u64; 2]) -> u64
-    ensures { partIn result ≡ lendsAll (vectorTray state.now slots.now) }
+    ensures { part_in result ≡ lends_all (vector_tray state.now slots.now) }
 {
     tum_vector_as_slice(slots, state) // upstream's AsRef
 }
 
 #[unsafe(no_mangle)]
 pub extern "C" fn tum_vector_deref(slots: &[u32], state: &[u64; 2]) -> u64
-    ensures { partIn result ≡ lendsAll (vectorTray state.now slots.now) }
+    ensures { part_in result ≡ lends_all (vector_tray state.now slots.now) }
 {
     tum_vector_as_slice(slots, state) // upstream's Deref
 }
 
 #[unsafe(no_mangle)]
 pub extern "C" fn tum_vector_as_mut_slice(slots: &[u32], state: &[u64; 2]) -> u64
-    ensures { partIn result ≡ lendsAll (vectorTray state.now slots.now) }
+    ensures { part_in result ≡ lends_all (vector_tray state.now slots.now) }
 {
     tum_vector_as_slice(slots, state) // for writing, which is the caller's
 }
 
 #[unsafe(no_mangle)]
 pub extern "C" fn tum_vector_deref_mut(slots: &[u32], state: &[u64; 2]) -> u64
-    ensures { partIn result ≡ lendsAll (vectorTray state.now slots.now) }
+    ensures { part_in result ≡ lends_all (vector_tray state.now slots.now) }
 {
     tum_vector_as_mut_slice(slots, state)
 }

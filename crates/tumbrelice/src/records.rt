@@ -1,5 +1,5 @@
 // The calls on a record of comma-separated text, which is passed as a pointer and the number of its bytes.
-ghost use Rattle.tumbrelice.specs.Heard.{vectorOf};
+ghost use Rattle.tumbrelice.specs.Heard.{vector_of};
 ghost use Rattle.tumbrelice.specs.HeardText.{HearsRecord, HearsTold, HearsUndone};
 
 use super::{vector_in, vector_out, word};
@@ -12,7 +12,7 @@ pub extern "C" fn tum_record_read(
     theirs: &mut [u32],
     other: &mut [u64; 2],
 ) -> u64
-    ensures { HearsRecord text.now (vectorOf state.old slots.old) (vectorOf other.old theirs.old) result (vectorOf state.new slots.new) (vectorOf other.new theirs.new) }
+    ensures { HearsRecord text.now (vector_of state.old slots.old) (vector_of other.old theirs.old) result (vector_of state.new slots.new) (vector_of other.new theirs.new) }
 {
     let v = vector_in(state);
     let t = vector_in(other);

@@ -1,7 +1,7 @@
 // A cursor's calls over a ring, which they leave as it is. from_iter fills a vector.
 ghost use Rattle.slots.specs.Layout.{ring};
-ghost use Rattle.table.specs.Calls.{iter, intoIter, stepFront, stepBack, peekFront, peekBack};
-ghost use Rattle.tumbrelice.specs.Heard.{HearsAt, HearsInto, ringOf, vectorOf, cursorOf};
+ghost use Rattle.table.specs.Calls.{iter, into_iter, step_front, step_back, peek_front, peek_back};
+ghost use Rattle.tumbrelice.specs.Heard.{HearsAt, HearsInto, ring_of, vector_of, cursor_of};
 
 use super::walks::{begun, cursor_in, cursor_out, peeked, stepped};
 use super::{ring_in, vector_in, vector_out, word};
@@ -9,7 +9,7 @@ use cursors::Cursor;
 
 #[unsafe(no_mangle)]
 pub extern "C" fn tum_ring_iter(slots: &[u32], state: &[u64; 3], cursor: &mut [usize; 2]) -> u64
-    ensures { HearsAt ring iter (ringOf state.now slots.now) result (cursorOf cursor.new) }
+    ensures { HearsAt ring iter (ring_of state.now slots.now) result (cursor_of cursor.new) }
 {
     let r = ring_in(state);
     let b = Cursor::ring_iter(r, slots);
@@ -22,7 +22,7 @@ pub extern "C" fn tum_ring_into_iter(
     state: &[u64; 3],
     cursor: &mut [usize; 2],
 ) -> u64
-    ensures { HearsAt ring intoIter (ringOf state.now slots.now) result (cursorOf cursor.new) }
+    ensures { HearsAt ring into_iter (ring_of state.now slots.now) result (cursor_of cursor.new) }
 {
     tum_ring_iter(slots, state, cursor)
 }
@@ -33,7 +33,7 @@ pub extern "C" fn tum_ring_step_front(
     state: &[u64; 3],
     cursor: &mut [usize; 2],
 ) -> u64
-    ensures { HearsAt ring (stepFront (cursorOf cursor.old)) (ringOf state.now slots.now) result (cursorOf cursor.new) }
+    ensures { HearsAt ring (step_front (cursor_of cursor.old)) (ring_of state.now slots.now) result (cursor_of cursor.new) }
 {
     let r = ring_in(state);
     let u = cursor_in(cursor);
@@ -47,7 +47,7 @@ pub extern "C" fn tum_ring_step_back(
     state: &[u64; 3],
     cursor: &mut [usize; 2],
 ) -> u64
-    ensures { HearsAt ring (stepBack (cursorOf cursor.old)) (ringOf state.now slots.now) result (cursorOf cursor.new) }
+    ensures { HearsAt ring (step_back (cursor_of cursor.old)) (ring_of state.now slots.now) result (cursor_of cursor.new) }
 {
     let r = ring_in(state);
     let u = cursor_in(cursor);
@@ -62,7 +62,7 @@ pub extern "C" fn tum_ring_peek_front(
     cursor: &[usize; 2],
     k: usize,
 ) -> u64
-    ensures { HearsAt ring (peekFront (cursorOf cursor.now) k) (ringOf state.now slots.now) result (cursorOf cursor.now) }
+    ensures { HearsAt ring (peek_front (cursor_of cursor.now) k) (ring_of state.now slots.now) result (cursor_of cursor.now) }
 {
     let r = ring_in(state);
     let u = cursor_in(cursor);
@@ -77,7 +77,7 @@ pub extern "C" fn tum_ring_peek_back(
     cursor: &[usize; 2],
     k: usize,
 ) -> u64
-    ensures { HearsAt ring (peekBack (cursorOf cursor.now) k) (ringOf state.now slots.now) result (cursorOf cursor.now) }
+    ensures { HearsAt ring (peek_back (cursor_of cursor.now) k) (ring_of state.now slots.now) result (cursor_of cursor.now) }
 {
     let r = ring_in(state);
     let u = cursor_in(cursor);
@@ -93,7 +93,7 @@ pub extern "C" fn tum_ring_from_iter(
     theirs: &mut [u32],
     other: &mut [u64; 2],
 ) -> u64
-    ensures { HearsInto ring (cursorOf cursor.old) (ringOf state.now slots.now) (vectorOf other.old theirs.old) result (cursorOf cursor.new) (vectorOf other.new theirs.new) }
+    ensures { HearsInto ring (cursor_of cursor.old) (ring_of state.now slots.now) (vector_of other.old theirs.old) result (cursor_of cursor.new) (vector_of other.new theirs.new) }
 {
     let r = ring_in(state);
     let u = cursor_in(cursor);

@@ -1,13 +1,13 @@
 // The calls on a ring. Its state is its head, its length, its total. A refused call stores none of them, and a call that never moves the head or the length does not store it.
 ghost use Rattle.slots.specs.Layout.{ring};
-ghost use Rattle.table.specs.Calls.{write, push, pushFront, pop, popFront, insert, remove, truncate, resize, clear, look, len, read, reserve};
-ghost use Rattle.tumbrelice.specs.Heard.{Hears, HearsWithin, ringOf};
+ghost use Rattle.table.specs.Calls.{write, push, push_front, pop, pop_front, insert, remove, truncate, resize, clear, look, len, read, reserve};
+ghost use Rattle.tumbrelice.specs.Heard.{Hears, HearsWithin, ring_of};
 
 use super::{ring_in, ring_out, ring_stays, ring_weighs, word};
 
 #[unsafe(no_mangle)]
 pub extern "C" fn tum_ring_len(slots: &[u32], state: &[u64; 3]) -> u64
-    ensures { Hears ring (look len) (ringOf state.now slots.now) result (ringOf state.now slots.now) }
+    ensures { Hears ring (look len) (ring_of state.now slots.now) result (ring_of state.now slots.now) }
 {
     let r = ring_in(state);
     let a = r.len(slots);
@@ -16,7 +16,7 @@ pub extern "C" fn tum_ring_len(slots: &[u32], state: &[u64; 3]) -> u64
 
 #[unsafe(no_mangle)]
 pub extern "C" fn tum_ring_read(slots: &[u32], state: &[u64; 3], i: usize) -> u64
-    ensures { Hears ring (look (read i)) (ringOf state.now slots.now) result (ringOf state.now slots.now) }
+    ensures { Hears ring (look (read i)) (ring_of state.now slots.now) result (ring_of state.now slots.now) }
 {
     let r = ring_in(state);
     let a = r.read(slots, i);
@@ -25,7 +25,7 @@ pub extern "C" fn tum_ring_read(slots: &[u32], state: &[u64; 3], i: usize) -> u6
 
 #[unsafe(no_mangle)]
 pub extern "C" fn tum_ring_reserve(slots: &[u32], state: &[u64; 3], k: usize) -> u64
-    ensures { Hears ring (look (reserve k)) (ringOf state.now slots.now) result (ringOf state.now slots.now) }
+    ensures { Hears ring (look (reserve k)) (ring_of state.now slots.now) result (ring_of state.now slots.now) }
 {
     let r = ring_in(state);
     let a = r.reserve(slots, k);
@@ -34,7 +34,7 @@ pub extern "C" fn tum_ring_reserve(slots: &[u32], state: &[u64; 3], k: usize) ->
 
 #[unsafe(no_mangle)]
 pub extern "C" fn tum_ring_write(slots: &mut [u32], state: &mut [u64; 3], i: usize, x: u32) -> u64
-    ensures { Hears ring (write i x) (ringOf state.old slots.old) result (ringOf state.new slots.new) }
+    ensures { Hears ring (write i x) (ring_of state.old slots.old) result (ring_of state.new slots.new) }
 {
     let r = ring_in(state);
     let a = r.write(slots, i, x);
@@ -44,7 +44,7 @@ pub extern "C" fn tum_ring_write(slots: &mut [u32], state: &mut [u64; 3], i: usi
 
 #[unsafe(no_mangle)]
 pub extern "C" fn tum_ring_push_back(slots: &mut [u32], state: &mut [u64; 3], x: u32) -> u64
-    ensures { Hears ring (push x) (ringOf state.old slots.old) result (ringOf state.new slots.new) }
+    ensures { Hears ring (push x) (ring_of state.old slots.old) result (ring_of state.new slots.new) }
 {
     let r = ring_in(state);
     let a = r.push_back(slots, x);
@@ -54,7 +54,7 @@ pub extern "C" fn tum_ring_push_back(slots: &mut [u32], state: &mut [u64; 3], x:
 
 #[unsafe(no_mangle)]
 pub extern "C" fn tum_ring_push_front(slots: &mut [u32], state: &mut [u64; 3], x: u32) -> u64
-    ensures { Hears ring (pushFront x) (ringOf state.old slots.old) result (ringOf state.new slots.new) }
+    ensures { Hears ring (push_front x) (ring_of state.old slots.old) result (ring_of state.new slots.new) }
 {
     let r = ring_in(state);
     let a = r.push_front(slots, x);
@@ -64,7 +64,7 @@ pub extern "C" fn tum_ring_push_front(slots: &mut [u32], state: &mut [u64; 3], x
 
 #[unsafe(no_mangle)]
 pub extern "C" fn tum_ring_pop_back(slots: &mut [u32], state: &mut [u64; 3]) -> u64
-    ensures { Hears ring pop (ringOf state.old slots.old) result (ringOf state.new slots.new) }
+    ensures { Hears ring pop (ring_of state.old slots.old) result (ring_of state.new slots.new) }
 {
     let r = ring_in(state);
     let a = r.pop_back(slots);
@@ -74,7 +74,7 @@ pub extern "C" fn tum_ring_pop_back(slots: &mut [u32], state: &mut [u64; 3]) -> 
 
 #[unsafe(no_mangle)]
 pub extern "C" fn tum_ring_pop_front(slots: &mut [u32], state: &mut [u64; 3]) -> u64
-    ensures { Hears ring popFront (ringOf state.old slots.old) result (ringOf state.new slots.new) }
+    ensures { Hears ring pop_front (ring_of state.old slots.old) result (ring_of state.new slots.new) }
 {
     let r = ring_in(state);
     let a = r.pop_front(slots);
@@ -84,7 +84,7 @@ pub extern "C" fn tum_ring_pop_front(slots: &mut [u32], state: &mut [u64; 3]) ->
 
 #[unsafe(no_mangle)]
 pub extern "C" fn tum_ring_insert(slots: &mut [u32], state: &mut [u64; 3], i: usize, x: u32) -> u64
-    ensures { Hears ring (insert i x) (ringOf state.old slots.old) result (ringOf state.new slots.new) }
+    ensures { Hears ring (insert i x) (ring_of state.old slots.old) result (ring_of state.new slots.new) }
 {
     let r = ring_in(state);
     let a = r.insert(slots, i, x);
@@ -94,7 +94,7 @@ pub extern "C" fn tum_ring_insert(slots: &mut [u32], state: &mut [u64; 3], i: us
 
 #[unsafe(no_mangle)]
 pub extern "C" fn tum_ring_remove(slots: &mut [u32], state: &mut [u64; 3], i: usize) -> u64
-    ensures { Hears ring (remove i) (ringOf state.old slots.old) result (ringOf state.new slots.new) }
+    ensures { Hears ring (remove i) (ring_of state.old slots.old) result (ring_of state.new slots.new) }
 {
     let r = ring_in(state);
     let a = r.remove(slots, i);
@@ -110,7 +110,7 @@ pub extern "C" fn tum_ring_insert_within(
     x: u32,
     allowance: usize,
 ) -> u64
-    ensures { HearsWithin allowance ring (insert i x) (ringOf state.old slots.old) result (ringOf state.new slots.new) }
+    ensures { HearsWithin allowance ring (insert i x) (ring_of state.old slots.old) result (ring_of state.new slots.new) }
 {
     let r = ring_in(state);
     let a = r.insert_within(slots, i, x, allowance);
@@ -125,7 +125,7 @@ pub extern "C" fn tum_ring_remove_within(
     i: usize,
     allowance: usize,
 ) -> u64
-    ensures { HearsWithin allowance ring (remove i) (ringOf state.old slots.old) result (ringOf state.new slots.new) }
+    ensures { HearsWithin allowance ring (remove i) (ring_of state.old slots.old) result (ring_of state.new slots.new) }
 {
     let r = ring_in(state);
     let a = r.remove_within(slots, i, allowance);
@@ -135,7 +135,7 @@ pub extern "C" fn tum_ring_remove_within(
 
 #[unsafe(no_mangle)]
 pub extern "C" fn tum_ring_truncate(slots: &mut [u32], state: &mut [u64; 3], k: usize) -> u64
-    ensures { Hears ring (truncate k) (ringOf state.old slots.old) result (ringOf state.new slots.new) }
+    ensures { Hears ring (truncate k) (ring_of state.old slots.old) result (ring_of state.new slots.new) }
 {
     let r = ring_in(state);
     let a = r.truncate(slots, k);
@@ -145,7 +145,7 @@ pub extern "C" fn tum_ring_truncate(slots: &mut [u32], state: &mut [u64; 3], k: 
 
 #[unsafe(no_mangle)]
 pub extern "C" fn tum_ring_resize(slots: &mut [u32], state: &mut [u64; 3], k: usize, x: u32) -> u64
-    ensures { Hears ring (resize k x) (ringOf state.old slots.old) result (ringOf state.new slots.new) }
+    ensures { Hears ring (resize k x) (ring_of state.old slots.old) result (ring_of state.new slots.new) }
 {
     let r = ring_in(state);
     let a = r.resize(slots, k, x);
@@ -155,7 +155,7 @@ pub extern "C" fn tum_ring_resize(slots: &mut [u32], state: &mut [u64; 3], k: us
 
 #[unsafe(no_mangle)]
 pub extern "C" fn tum_ring_clear(slots: &mut [u32], state: &mut [u64; 3]) -> u64
-    ensures { Hears ring clear (ringOf state.old slots.old) result (ringOf state.new slots.new) }
+    ensures { Hears ring clear (ring_of state.old slots.old) result (ring_of state.new slots.new) }
 {
     let r = ring_in(state);
     let a = r.clear(slots);

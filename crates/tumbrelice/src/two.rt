@@ -1,7 +1,7 @@
 // The calls that change two containers of one kind, the one named first and T. A refused call stores no state.
 ghost use Rattle.slots.specs.Layout.{ring, vector};
-ghost use Rattle.table.specs.Calls.{append, splitOff, clone};
-ghost use Rattle.tumbrelice.specs.Heard.{Hears2, ringOf, vectorOf};
+ghost use Rattle.table.specs.Calls.{append, split_off, clone};
+ghost use Rattle.tumbrelice.specs.Heard.{Hears2, ring_of, vector_of};
 
 use super::{ring_in, ring_out, vector_in, vector_out, word};
 
@@ -12,7 +12,7 @@ pub extern "C" fn tum_ring_append(
     theirs: &mut [u32],
     other: &mut [u64; 3],
 ) -> u64
-    ensures { Hears2 ring ring append (ringOf state.old slots.old) (ringOf other.old theirs.old) result (ringOf state.new slots.new) (ringOf other.new theirs.new) }
+    ensures { Hears2 ring ring append (ring_of state.old slots.old) (ring_of other.old theirs.old) result (ring_of state.new slots.new) (ring_of other.new theirs.new) }
 {
     let r = ring_in(state);
     let t = ring_in(other);
@@ -30,7 +30,7 @@ pub extern "C" fn tum_ring_split_off(
     theirs: &mut [u32],
     other: &mut [u64; 3],
 ) -> u64
-    ensures { Hears2 ring ring (splitOff i) (ringOf state.old slots.old) (ringOf other.old theirs.old) result (ringOf state.new slots.new) (ringOf other.new theirs.new) }
+    ensures { Hears2 ring ring (split_off i) (ring_of state.old slots.old) (ring_of other.old theirs.old) result (ring_of state.new slots.new) (ring_of other.new theirs.new) }
 {
     let r = ring_in(state);
     let t = ring_in(other);
@@ -47,7 +47,7 @@ pub extern "C" fn tum_ring_clone(
     theirs: &mut [u32],
     other: &mut [u64; 3],
 ) -> u64
-    ensures { Hears2 ring ring clone (ringOf state.now slots.now) (ringOf other.old theirs.old) result (ringOf state.now slots.now) (ringOf other.new theirs.new) }
+    ensures { Hears2 ring ring clone (ring_of state.now slots.now) (ring_of other.old theirs.old) result (ring_of state.now slots.now) (ring_of other.new theirs.new) }
 {
     let r = ring_in(state);
     let t = ring_in(other);
@@ -63,7 +63,7 @@ pub extern "C" fn tum_vector_append(
     theirs: &mut [u32],
     other: &mut [u64; 2],
 ) -> u64
-    ensures { Hears2 vector vector append (vectorOf state.old slots.old) (vectorOf other.old theirs.old) result (vectorOf state.new slots.new) (vectorOf other.new theirs.new) }
+    ensures { Hears2 vector vector append (vector_of state.old slots.old) (vector_of other.old theirs.old) result (vector_of state.new slots.new) (vector_of other.new theirs.new) }
 {
     let v = vector_in(state);
     let t = vector_in(other);
@@ -81,7 +81,7 @@ pub extern "C" fn tum_vector_split_off(
     theirs: &mut [u32],
     other: &mut [u64; 2],
 ) -> u64
-    ensures { Hears2 vector vector (splitOff i) (vectorOf state.old slots.old) (vectorOf other.old theirs.old) result (vectorOf state.new slots.new) (vectorOf other.new theirs.new) }
+    ensures { Hears2 vector vector (split_off i) (vector_of state.old slots.old) (vector_of other.old theirs.old) result (vector_of state.new slots.new) (vector_of other.new theirs.new) }
 {
     let v = vector_in(state);
     let t = vector_in(other);
@@ -98,7 +98,7 @@ pub extern "C" fn tum_vector_clone(
     theirs: &mut [u32],
     other: &mut [u64; 2],
 ) -> u64
-    ensures { Hears2 vector vector clone (vectorOf state.now slots.now) (vectorOf other.old theirs.old) result (vectorOf state.now slots.now) (vectorOf other.new theirs.new) }
+    ensures { Hears2 vector vector clone (vector_of state.now slots.now) (vector_of other.old theirs.old) result (vector_of state.now slots.now) (vector_of other.new theirs.new) }
 {
     let v = vector_in(state);
     let t = vector_in(other);

@@ -1,7 +1,7 @@
 // A cursor's calls over a vector, which they leave as it is. from_iter fills a vector.
 ghost use Rattle.slots.specs.Layout.{vector};
-ghost use Rattle.table.specs.Calls.{iter, intoIter, stepFront, stepBack, peekFront, peekBack};
-ghost use Rattle.tumbrelice.specs.Heard.{HearsAt, HearsInto, vectorOf, cursorOf};
+ghost use Rattle.table.specs.Calls.{iter, into_iter, step_front, step_back, peek_front, peek_back};
+ghost use Rattle.tumbrelice.specs.Heard.{HearsAt, HearsInto, vector_of, cursor_of};
 
 use super::walks::{begun, cursor_in, cursor_out, peeked, stepped};
 use super::{vector_in, vector_out, word};
@@ -9,7 +9,7 @@ use cursors::Cursor;
 
 #[unsafe(no_mangle)]
 pub extern "C" fn tum_vector_iter(slots: &[u32], state: &[u64; 2], cursor: &mut [usize; 2]) -> u64
-    ensures { HearsAt vector iter (vectorOf state.now slots.now) result (cursorOf cursor.new) }
+    ensures { HearsAt vector iter (vector_of state.now slots.now) result (cursor_of cursor.new) }
 {
     let v = vector_in(state);
     let b = Cursor::vector_iter(v, slots);
@@ -22,7 +22,7 @@ pub extern "C" fn tum_vector_into_iter(
     state: &[u64; 2],
     cursor: &mut [usize; 2],
 ) -> u64
-    ensures { HearsAt vector intoIter (vectorOf state.now slots.now) result (cursorOf cursor.new) }
+    ensures { HearsAt vector into_iter (vector_of state.now slots.now) result (cursor_of cursor.new) }
 {
     tum_vector_iter(slots, state, cursor)
 }
@@ -33,7 +33,7 @@ pub extern "C" fn tum_vector_step_front(
     state: &[u64; 2],
     cursor: &mut [usize; 2],
 ) -> u64
-    ensures { HearsAt vector (stepFront (cursorOf cursor.old)) (vectorOf state.now slots.now) result (cursorOf cursor.new) }
+    ensures { HearsAt vector (step_front (cursor_of cursor.old)) (vector_of state.now slots.now) result (cursor_of cursor.new) }
 {
     let v = vector_in(state);
     let u = cursor_in(cursor);
@@ -47,7 +47,7 @@ pub extern "C" fn tum_vector_step_back(
     state: &[u64; 2],
     cursor: &mut [usize; 2],
 ) -> u64
-    ensures { HearsAt vector (stepBack (cursorOf cursor.old)) (vectorOf state.now slots.now) result (cursorOf cursor.new) }
+    ensures { HearsAt vector (step_back (cursor_of cursor.old)) (vector_of state.now slots.now) result (cursor_of cursor.new) }
 {
     let v = vector_in(state);
     let u = cursor_in(cursor);
@@ -62,7 +62,7 @@ pub extern "C" fn tum_vector_peek_front(
     cursor: &[usize; 2],
     k: usize,
 ) -> u64
-    ensures { HearsAt vector (peekFront (cursorOf cursor.now) k) (vectorOf state.now slots.now) result (cursorOf cursor.now) }
+    ensures { HearsAt vector (peek_front (cursor_of cursor.now) k) (vector_of state.now slots.now) result (cursor_of cursor.now) }
 {
     let v = vector_in(state);
     let u = cursor_in(cursor);
@@ -77,7 +77,7 @@ pub extern "C" fn tum_vector_peek_back(
     cursor: &[usize; 2],
     k: usize,
 ) -> u64
-    ensures { HearsAt vector (peekBack (cursorOf cursor.now) k) (vectorOf state.now slots.now) result (cursorOf cursor.now) }
+    ensures { HearsAt vector (peek_back (cursor_of cursor.now) k) (vector_of state.now slots.now) result (cursor_of cursor.now) }
 {
     let v = vector_in(state);
     let u = cursor_in(cursor);
@@ -93,7 +93,7 @@ pub extern "C" fn tum_vector_from_iter(
     theirs: &mut [u32],
     other: &mut [u64; 2],
 ) -> u64
-    ensures { HearsInto vector (cursorOf cursor.old) (vectorOf state.now slots.now) (vectorOf other.old theirs.old) result (cursorOf cursor.new) (vectorOf other.new theirs.new) }
+    ensures { HearsInto vector (cursor_of cursor.old) (vector_of state.now slots.now) (vector_of other.old theirs.old) result (cursor_of cursor.new) (vector_of other.new theirs.new) }
 {
     let v = vector_in(state);
     let u = cursor_in(cursor);

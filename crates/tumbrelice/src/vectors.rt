@@ -1,14 +1,14 @@
 // The calls on a vector. Its state is its length, its total; a refused call stores neither.
 ghost use Rattle.slots.specs.Layout.{vector};
-ghost use Rattle.table.specs.Calls.{write, push, pop, insert, remove, swapRemove, truncate, resize, clear, extend};
-ghost use Rattle.table.specs.Calls.{look, len, is_empty, read, reserve, tryReserve, tryReserveExact, range};
-ghost use Rattle.tumbrelice.specs.Heard.{Hears, vectorOf};
+ghost use Rattle.table.specs.Calls.{write, push, pop, insert, remove, swap_remove, truncate, resize, clear, extend};
+ghost use Rattle.table.specs.Calls.{look, len, is_empty, read, reserve, try_reserve, try_reserve_exact, range};
+ghost use Rattle.tumbrelice.specs.Heard.{Hears, vector_of};
 
 use super::{vector_in, vector_out, vector_weighs, word};
 
 #[unsafe(no_mangle)]
 pub extern "C" fn tum_vector_len(slots: &[u32], state: &[u64; 2]) -> u64
-    ensures { Hears vector (look len) (vectorOf state.now slots.now) result (vectorOf state.now slots.now) }
+    ensures { Hears vector (look len) (vector_of state.now slots.now) result (vector_of state.now slots.now) }
 {
     let v = vector_in(state);
     let a = v.len(slots);
@@ -17,7 +17,7 @@ pub extern "C" fn tum_vector_len(slots: &[u32], state: &[u64; 2]) -> u64
 
 #[unsafe(no_mangle)]
 pub extern "C" fn tum_vector_is_empty(slots: &[u32], state: &[u64; 2]) -> u64
-    ensures { Hears vector (look is_empty) (vectorOf state.now slots.now) result (vectorOf state.now slots.now) }
+    ensures { Hears vector (look is_empty) (vector_of state.now slots.now) result (vector_of state.now slots.now) }
 {
     let v = vector_in(state);
     let a = v.is_empty(slots);
@@ -26,7 +26,7 @@ pub extern "C" fn tum_vector_is_empty(slots: &[u32], state: &[u64; 2]) -> u64
 
 #[unsafe(no_mangle)]
 pub extern "C" fn tum_vector_read(slots: &[u32], state: &[u64; 2], i: usize) -> u64
-    ensures { Hears vector (look (read i)) (vectorOf state.now slots.now) result (vectorOf state.now slots.now) }
+    ensures { Hears vector (look (read i)) (vector_of state.now slots.now) result (vector_of state.now slots.now) }
 {
     let v = vector_in(state);
     let a = v.read(slots, i);
@@ -35,7 +35,7 @@ pub extern "C" fn tum_vector_read(slots: &[u32], state: &[u64; 2], i: usize) -> 
 
 #[unsafe(no_mangle)]
 pub extern "C" fn tum_vector_reserve(slots: &[u32], state: &[u64; 2], k: usize) -> u64
-    ensures { Hears vector (look (reserve k)) (vectorOf state.now slots.now) result (vectorOf state.now slots.now) }
+    ensures { Hears vector (look (reserve k)) (vector_of state.now slots.now) result (vector_of state.now slots.now) }
 {
     let v = vector_in(state);
     let a = v.reserve(slots, k);
@@ -44,7 +44,7 @@ pub extern "C" fn tum_vector_reserve(slots: &[u32], state: &[u64; 2], k: usize) 
 
 #[unsafe(no_mangle)]
 pub extern "C" fn tum_vector_try_reserve(slots: &[u32], state: &[u64; 2], k: usize) -> u64
-    ensures { Hears vector (look (tryReserve k)) (vectorOf state.now slots.now) result (vectorOf state.now slots.now) }
+    ensures { Hears vector (look (try_reserve k)) (vector_of state.now slots.now) result (vector_of state.now slots.now) }
 {
     let v = vector_in(state);
     let a = v.try_reserve(slots, k);
@@ -53,7 +53,7 @@ pub extern "C" fn tum_vector_try_reserve(slots: &[u32], state: &[u64; 2], k: usi
 
 #[unsafe(no_mangle)]
 pub extern "C" fn tum_vector_try_reserve_exact(slots: &[u32], state: &[u64; 2], k: usize) -> u64
-    ensures { Hears vector (look (tryReserveExact k)) (vectorOf state.now slots.now) result (vectorOf state.now slots.now) }
+    ensures { Hears vector (look (try_reserve_exact k)) (vector_of state.now slots.now) result (vector_of state.now slots.now) }
 {
     let v = vector_in(state);
     let a = v.try_reserve_exact(slots, k);
@@ -62,7 +62,7 @@ pub extern "C" fn tum_vector_try_reserve_exact(slots: &[u32], state: &[u64; 2], 
 
 #[unsafe(no_mangle)]
 pub extern "C" fn tum_vector_ask_range(slots: &[u32], state: &[u64; 2], a: usize, b: usize) -> u64
-    ensures { Hears vector (look (range a b)) (vectorOf state.now slots.now) result (vectorOf state.now slots.now) }
+    ensures { Hears vector (look (range a b)) (vector_of state.now slots.now) result (vector_of state.now slots.now) }
 {
     let v = vector_in(state);
     let q = v.ask_range(slots, a, b);
@@ -71,7 +71,7 @@ pub extern "C" fn tum_vector_ask_range(slots: &[u32], state: &[u64; 2], a: usize
 
 #[unsafe(no_mangle)]
 pub extern "C" fn tum_vector_write(slots: &mut [u32], state: &mut [u64; 2], i: usize, x: u32) -> u64
-    ensures { Hears vector (write i x) (vectorOf state.old slots.old) result (vectorOf state.new slots.new) }
+    ensures { Hears vector (write i x) (vector_of state.old slots.old) result (vector_of state.new slots.new) }
 {
     let v = vector_in(state);
     let a = v.write(slots, i, x);
@@ -81,7 +81,7 @@ pub extern "C" fn tum_vector_write(slots: &mut [u32], state: &mut [u64; 2], i: u
 
 #[unsafe(no_mangle)]
 pub extern "C" fn tum_vector_push(slots: &mut [u32], state: &mut [u64; 2], x: u32) -> u64
-    ensures { Hears vector (push x) (vectorOf state.old slots.old) result (vectorOf state.new slots.new) }
+    ensures { Hears vector (push x) (vector_of state.old slots.old) result (vector_of state.new slots.new) }
 {
     let v = vector_in(state);
     let a = v.push(slots, x);
@@ -91,7 +91,7 @@ pub extern "C" fn tum_vector_push(slots: &mut [u32], state: &mut [u64; 2], x: u3
 
 #[unsafe(no_mangle)]
 pub extern "C" fn tum_vector_pop(slots: &mut [u32], state: &mut [u64; 2]) -> u64
-    ensures { Hears vector pop (vectorOf state.old slots.old) result (vectorOf state.new slots.new) }
+    ensures { Hears vector pop (vector_of state.old slots.old) result (vector_of state.new slots.new) }
 {
     let v = vector_in(state);
     let a = v.pop(slots);
@@ -106,7 +106,7 @@ pub extern "C" fn tum_vector_insert(
     i: usize,
     x: u32,
 ) -> u64
-    ensures { Hears vector (insert i x) (vectorOf state.old slots.old) result (vectorOf state.new slots.new) }
+    ensures { Hears vector (insert i x) (vector_of state.old slots.old) result (vector_of state.new slots.new) }
 {
     let v = vector_in(state);
     let a = v.insert(slots, i, x);
@@ -116,7 +116,7 @@ pub extern "C" fn tum_vector_insert(
 
 #[unsafe(no_mangle)]
 pub extern "C" fn tum_vector_remove(slots: &mut [u32], state: &mut [u64; 2], i: usize) -> u64
-    ensures { Hears vector (remove i) (vectorOf state.old slots.old) result (vectorOf state.new slots.new) }
+    ensures { Hears vector (remove i) (vector_of state.old slots.old) result (vector_of state.new slots.new) }
 {
     let v = vector_in(state);
     let a = v.remove(slots, i);
@@ -126,7 +126,7 @@ pub extern "C" fn tum_vector_remove(slots: &mut [u32], state: &mut [u64; 2], i: 
 
 #[unsafe(no_mangle)]
 pub extern "C" fn tum_vector_swap_remove(slots: &mut [u32], state: &mut [u64; 2], i: usize) -> u64
-    ensures { Hears vector (swapRemove i) (vectorOf state.old slots.old) result (vectorOf state.new slots.new) }
+    ensures { Hears vector (swap_remove i) (vector_of state.old slots.old) result (vector_of state.new slots.new) }
 {
     let v = vector_in(state);
     let a = v.swap_remove(slots, i);
@@ -136,7 +136,7 @@ pub extern "C" fn tum_vector_swap_remove(slots: &mut [u32], state: &mut [u64; 2]
 
 #[unsafe(no_mangle)]
 pub extern "C" fn tum_vector_truncate(slots: &mut [u32], state: &mut [u64; 2], k: usize) -> u64
-    ensures { Hears vector (truncate k) (vectorOf state.old slots.old) result (vectorOf state.new slots.new) }
+    ensures { Hears vector (truncate k) (vector_of state.old slots.old) result (vector_of state.new slots.new) }
 {
     let v = vector_in(state);
     let a = v.truncate(slots, k);
@@ -151,7 +151,7 @@ pub extern "C" fn tum_vector_resize(
     k: usize,
     x: u32,
 ) -> u64
-    ensures { Hears vector (resize k x) (vectorOf state.old slots.old) result (vectorOf state.new slots.new) }
+    ensures { Hears vector (resize k x) (vector_of state.old slots.old) result (vector_of state.new slots.new) }
 {
     let v = vector_in(state);
     let a = v.resize(slots, k, x);
@@ -161,7 +161,7 @@ pub extern "C" fn tum_vector_resize(
 
 #[unsafe(no_mangle)]
 pub extern "C" fn tum_vector_clear(slots: &mut [u32], state: &mut [u64; 2]) -> u64
-    ensures { Hears vector clear (vectorOf state.old slots.old) result (vectorOf state.new slots.new) }
+    ensures { Hears vector clear (vector_of state.old slots.old) result (vector_of state.new slots.new) }
 {
     let v = vector_in(state);
     let a = v.clear(slots);
@@ -175,7 +175,7 @@ pub extern "C" fn tum_vector_extend_from_slice(
     state: &mut [u64; 2],
     s: &[u32],
 ) -> u64
-    ensures { Hears vector (extend s.now) (vectorOf state.old slots.old) result (vectorOf state.new slots.new) }
+    ensures { Hears vector (extend s.now) (vector_of state.old slots.old) result (vector_of state.new slots.new) }
 {
     let v = vector_in(state);
     let a = v.extend_from_slice(slots, s);

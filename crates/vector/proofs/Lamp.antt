@@ -4,10 +4,10 @@ use mathlib.Core.List.{List}
 use Prim.Native.Nat.{ℕ}
 use Rattle.slots.specs.Layout.{vector}
 use Rattle.table.specs.Calls.{Call}
-use Rattle.table.proofs.Theorems.Reported.{Lit, lit-as-promised}
+use Rattle.table.proofs.Theorems.Reported.{Lit, lit_as_promised}
 use Rattle.vector.specs.declared.Vector.{Vector}
 use Rattle.vector.specs.declared.Answer.{Answer}
 use Rattle.vector.specs.Seen.{tray, seen, Meets}
 
 pub lamp : (call : Call) (v : Vector) (before after : List ℕ) (a : Answer) → Meets call v before a after → Lit vector call (tray v before) (seen a after) a.slot
-lamp call v before after a m = lit-as-promised vector call _ _ _ m.row m.slot
+lamp call v before after a m = lit_as_promised vector call _ _ _ m.row m.slot

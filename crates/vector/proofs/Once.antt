@@ -10,7 +10,7 @@ use Rattle.table.proofs.Theorems.Unique.{one_answer}
 use Rattle.vector.specs.declared.Vector.{Vector}
 use Rattle.vector.specs.declared.Answer.{Answer}
 use Rattle.vector.specs.Seen.{seen, Meets, Makes, state}
-use Rattle.table.proofs.Laws.Lending.{one-part}
+use Rattle.table.proofs.Laws.Lending.{one_part}
 use Rattle.vector.proofs.Vector as fns
 use Rattle.vector.proofs.state as state·fn
 use Rattle.vector.proofs.refused as refused·fn
@@ -18,110 +18,110 @@ use Rattle.vector.proofs.shows as shows·fn
 use Rattle.vector.proofs.done as done·fn
 
 -- an answer is told by what is seen of it, by the slot that it reports and by the total
-pub told-by : (o : Outcome) (n m : ℕ) (r r' : Answer) (s s' : List ℕ) → seen r s ≡ o → seen r' s' ≡ o → r.slot ≡ n → r'.slot ≡ n → r.vector.total.sum ≡ m → r'.vector.total.sum ≡ m
+pub told_by : (o : Outcome) (n m : ℕ) (r r' : Answer) (s s' : List ℕ) → seen r s ≡ o → seen r' s' ≡ o → r.slot ≡ n → r'.slot ≡ n → r.vector.total.sum ≡ m → r'.vector.total.sum ≡ m
     → (r ≡ r') × (s ≡ s')
-told-by o n m r r' s s' e e' slot slot' sum sum' =
+told_by o n m r r' s s' e e' slot slot' sum sum' =
     one_answer {B = ℕ × ℕ} seen (λ r. (r.slot, r.vector.total.sum))
     (λ o b. record { number = o.number; value = o.value; moves = o.moves; slot = b.0; vector = state o.tray.len (record { sum = b.1 }) })
     (λ r s. refl) (λ r s. refl) o (n, m) r r' s s' e e' (cc) (cc)
 
 -- every promise that bears a number is `Meets`, a making's `Makes`
 one : {call : Call} {v : Vector} {b : List ℕ} (r r' : Answer) (s s' : List ℕ) → Meets call v b r s → Meets call v b r' s' → (r ≡ r') × (s ≡ s')
-one r r' s s' p q = told-by _ _ _ r r' s s' p.row q.row p.slot q.slot p.total q.total
+one r r' s s' p q = told_by _ _ _ r r' s s' p.row q.row p.slot q.slot p.total q.total
 
-one-made : {m : Making} {b : List ℕ} (r r' : Answer) (s s' : List ℕ) → Makes m b r s → Makes m b r' s' → (r ≡ r') × (s ≡ s')
-one-made r r' s s' p q = told-by _ _ _ r r' s s' p.row q.row p.slot q.slot p.total q.total
+one_made : {m : Making} {b : List ℕ} (r r' : Answer) (s s' : List ℕ) → Makes m b r s → Makes m b r' s' → (r ≡ r') × (s ≡ s')
+one_made r r' s s' p q = told_by _ _ _ r r' s s' p.row q.row p.slot q.slot p.total q.total
 
 module _ (κs : Lfts 1) where
-  pub new-once : Twice fns.new.ended κs (fns.new.Reads.Learnt κs) (λ r e r' e'. r ≡ r')
-  new-once a r r' e e' l l' = (one-made r r' _ _ l l').0
+  pub new_once : Twice fns.new.ended κs (fns.new.Reads.Learnt κs) (λ r e r' e'. r ≡ r')
+  new_once a r r' e e' l l' = (one_made r r' _ _ l l').0
 
-  pub with-capacity-once : Twice fns.with_capacity.ended κs (fns.with_capacity.Reads.Learnt κs) (λ r e r' e'. r ≡ r')
-  with-capacity-once a r r' e e' l l' = (one-made r r' _ _ l l').0
+  pub with_capacity_once : Twice fns.with_capacity.ended κs (fns.with_capacity.Reads.Learnt κs) (λ r e r' e'. r ≡ r')
+  with_capacity_once a r r' e e' l l' = (one_made r r' _ _ l l').0
 
-  pub from-elem-once : Twice fns.from_elem.ended κs (fns.from_elem.Reads.Learnt κs) (λ r e r' e'. (r ≡ r') × (e.0.now ≡ e'.0.now))
-  from-elem-once a r r' e e' = one-made r r' _ _
+  pub from_elem_once : Twice fns.from_elem.ended κs (fns.from_elem.Reads.Learnt κs) (λ r e r' e'. (r ≡ r') × (e.0.now ≡ e'.0.now))
+  from_elem_once a r r' e e' = one_made r r' _ _
 
   pub len-once : Twice fns.len.ended κs (fns.len.Reads.Learnt κs) (λ r e r' e'. r ≡ r')
   len-once a r r' e e' l l' = (one r r' _ _ l l').0
 
-  pub is-empty-once : Twice fns.is_empty.ended κs (fns.is_empty.Reads.Learnt κs) (λ r e r' e'. r ≡ r')
-  is-empty-once a r r' e e' l l' = (one r r' _ _ l l').0
+  pub is_empty_once : Twice fns.is_empty.ended κs (fns.is_empty.Reads.Learnt κs) (λ r e r' e'. r ≡ r')
+  is_empty_once a r r' e e' l l' = (one r r' _ _ l l').0
 
-  pub read-once : Twice fns.read.ended κs (fns.read.Reads.Learnt κs) (λ r e r' e'. r ≡ r')
-  read-once a r r' e e' l l' = (one r r' _ _ l l').0
+  pub read_once : Twice fns.read.ended κs (fns.read.Reads.Learnt κs) (λ r e r' e'. r ≡ r')
+  read_once a r r' e e' l l' = (one r r' _ _ l l').0
 
-  pub reserve-once : Twice fns.reserve.ended κs (fns.reserve.Reads.Learnt κs) (λ r e r' e'. r ≡ r')
-  reserve-once a r r' e e' l l' = (one r r' _ _ l l').0
+  pub reserve_once : Twice fns.reserve.ended κs (fns.reserve.Reads.Learnt κs) (λ r e r' e'. r ≡ r')
+  reserve_once a r r' e e' l l' = (one r r' _ _ l l').0
 
-  pub try-reserve-once : Twice fns.try_reserve.ended κs (fns.try_reserve.Reads.Learnt κs) (λ r e r' e'. r ≡ r')
-  try-reserve-once a r r' e e' l l' = (one r r' _ _ l l').0
+  pub try_reserve_once : Twice fns.try_reserve.ended κs (fns.try_reserve.Reads.Learnt κs) (λ r e r' e'. r ≡ r')
+  try_reserve_once a r r' e e' l l' = (one r r' _ _ l l').0
 
-  pub try-reserve-exact-once : Twice fns.try_reserve_exact.ended κs (fns.try_reserve_exact.Reads.Learnt κs) (λ r e r' e'. r ≡ r')
-  try-reserve-exact-once a r r' e e' l l' = (one r r' _ _ l l').0
+  pub try_reserve_exact_once : Twice fns.try_reserve_exact.ended κs (fns.try_reserve_exact.Reads.Learnt κs) (λ r e r' e'. r ≡ r')
+  try_reserve_exact_once a r r' e e' l l' = (one r r' _ _ l l').0
 
-  pub ask-range-once : Twice fns.ask_range.ended κs (fns.ask_range.Reads.Learnt κs) (λ r e r' e'. r ≡ r')
-  ask-range-once a r r' e e' l l' = (one r r' _ _ l l').0
+  pub ask_range_once : Twice fns.ask_range.ended κs (fns.ask_range.Reads.Learnt κs) (λ r e r' e'. r ≡ r')
+  ask_range_once a r r' e e' l l' = (one r r' _ _ l l').0
 
-  pub write-once : Twice fns.write.ended κs (fns.write.Reads.Learnt κs) (λ r e r' e'. (r ≡ r') × (e.1.0.now ≡ e'.1.0.now))
-  write-once a r r' e e' = one r r' _ _
+  pub write_once : Twice fns.write.ended κs (fns.write.Reads.Learnt κs) (λ r e r' e'. (r ≡ r') × (e.1.0.now ≡ e'.1.0.now))
+  write_once a r r' e e' = one r r' _ _
 
-  pub push-once : Twice fns.push.ended κs (fns.push.Reads.Learnt κs) (λ r e r' e'. (r ≡ r') × (e.1.0.now ≡ e'.1.0.now))
-  push-once a r r' e e' = one r r' _ _
+  pub push_once : Twice fns.push.ended κs (fns.push.Reads.Learnt κs) (λ r e r' e'. (r ≡ r') × (e.1.0.now ≡ e'.1.0.now))
+  push_once a r r' e e' = one r r' _ _
 
-  pub pop-once : Twice fns.pop.ended κs (fns.pop.Reads.Learnt κs) (λ r e r' e'. (r ≡ r') × (e.1.0.now ≡ e'.1.0.now))
-  pop-once a r r' e e' = one r r' _ _
+  pub pop_once : Twice fns.pop.ended κs (fns.pop.Reads.Learnt κs) (λ r e r' e'. (r ≡ r') × (e.1.0.now ≡ e'.1.0.now))
+  pop_once a r r' e e' = one r r' _ _
 
-  pub insert-once : Twice fns.insert.ended κs (fns.insert.Reads.Learnt κs) (λ r e r' e'. (r ≡ r') × (e.1.0.now ≡ e'.1.0.now))
-  insert-once a r r' e e' = one r r' _ _
+  pub insert_once : Twice fns.insert.ended κs (fns.insert.Reads.Learnt κs) (λ r e r' e'. (r ≡ r') × (e.1.0.now ≡ e'.1.0.now))
+  insert_once a r r' e e' = one r r' _ _
 
-  pub remove-once : Twice fns.remove.ended κs (fns.remove.Reads.Learnt κs) (λ r e r' e'. (r ≡ r') × (e.1.0.now ≡ e'.1.0.now))
-  remove-once a r r' e e' = one r r' _ _
+  pub remove_once : Twice fns.remove.ended κs (fns.remove.Reads.Learnt κs) (λ r e r' e'. (r ≡ r') × (e.1.0.now ≡ e'.1.0.now))
+  remove_once a r r' e e' = one r r' _ _
 
-  pub swap-remove-once : Twice fns.swap_remove.ended κs (fns.swap_remove.Reads.Learnt κs) (λ r e r' e'. (r ≡ r') × (e.1.0.now ≡ e'.1.0.now))
-  swap-remove-once a r r' e e' = one r r' _ _
+  pub swap_remove_once : Twice fns.swap_remove.ended κs (fns.swap_remove.Reads.Learnt κs) (λ r e r' e'. (r ≡ r') × (e.1.0.now ≡ e'.1.0.now))
+  swap_remove_once a r r' e e' = one r r' _ _
 
-  pub truncate-once : Twice fns.truncate.ended κs (fns.truncate.Reads.Learnt κs) (λ r e r' e'. (r ≡ r') × (e.1.0.now ≡ e'.1.0.now))
-  truncate-once a r r' e e' = one r r' _ _
+  pub truncate_once : Twice fns.truncate.ended κs (fns.truncate.Reads.Learnt κs) (λ r e r' e'. (r ≡ r') × (e.1.0.now ≡ e'.1.0.now))
+  truncate_once a r r' e e' = one r r' _ _
 
-  pub resize-once : Twice fns.resize.ended κs (fns.resize.Reads.Learnt κs) (λ r e r' e'. (r ≡ r') × (e.1.0.now ≡ e'.1.0.now))
-  resize-once a r r' e e' = one r r' _ _
+  pub resize_once : Twice fns.resize.ended κs (fns.resize.Reads.Learnt κs) (λ r e r' e'. (r ≡ r') × (e.1.0.now ≡ e'.1.0.now))
+  resize_once a r r' e e' = one r r' _ _
 
-  pub clear-once : Twice fns.clear.ended κs (fns.clear.Reads.Learnt κs) (λ r e r' e'. (r ≡ r') × (e.1.0.now ≡ e'.1.0.now))
-  clear-once a r r' e e' = one r r' _ _
+  pub clear_once : Twice fns.clear.ended κs (fns.clear.Reads.Learnt κs) (λ r e r' e'. (r ≡ r') × (e.1.0.now ≡ e'.1.0.now))
+  clear_once a r r' e e' = one r r' _ _
 
-  pub range-once : Twice fns.range.ended κs (fns.range.Reads.Learnt κs) (λ r e r' e'. (r.ref_ptr ≡ r'.ref_ptr) × (r.now ≡ r'.now))
-  range-once a r r' e e' = one-part _ _ _ r r'
+  pub range_once : Twice fns.range.ended κs (fns.range.Reads.Learnt κs) (λ r e r' e'. (r.ref_ptr ≡ r'.ref_ptr) × (r.now ≡ r'.now))
+  range_once a r r' e e' = one_part _ _ _ r r'
 
-  pub as-slice-once : Twice fns.as_slice.ended κs (fns.as_slice.Reads.Learnt κs) (λ r e r' e'. (r.ref_ptr ≡ r'.ref_ptr) × (r.now ≡ r'.now))
-  as-slice-once a r r' e e' = one-part _ _ _ r r'
+  pub as_slice_once : Twice fns.as_slice.ended κs (fns.as_slice.Reads.Learnt κs) (λ r e r' e'. (r.ref_ptr ≡ r'.ref_ptr) × (r.now ≡ r'.now))
+  as_slice_once a r r' e e' = one_part _ _ _ r r'
 
-  pub as-ref-once : Twice fns.as_ref.ended κs (fns.as_ref.Reads.Learnt κs) (λ r e r' e'. (r.ref_ptr ≡ r'.ref_ptr) × (r.now ≡ r'.now))
-  as-ref-once a r r' e e' = one-part _ _ _ r r'
+  pub as_ref_once : Twice fns.as_ref.ended κs (fns.as_ref.Reads.Learnt κs) (λ r e r' e'. (r.ref_ptr ≡ r'.ref_ptr) × (r.now ≡ r'.now))
+  as_ref_once a r r' e e' = one_part _ _ _ r r'
 
-  pub deref-once : Twice fns.deref.ended κs (fns.deref.Reads.Learnt κs) (λ r e r' e'. (r.ref_ptr ≡ r'.ref_ptr) × (r.now ≡ r'.now))
-  deref-once a r r' e e' = one-part _ _ _ r r'
+  pub deref_once : Twice fns.deref.ended κs (fns.deref.Reads.Learnt κs) (λ r e r' e'. (r.ref_ptr ≡ r'.ref_ptr) × (r.now ≡ r'.now))
+  deref_once a r r' e e' = one_part _ _ _ r r'
 
-  pub as-mut-slice-once : Twice fns.as_mut_slice.ended κs (fns.as_mut_slice.Reads.Learnt κs) (λ r e r' e'. (r.ref_ptr ≡ r'.ref_ptr) × (r.now ≡ r'.now))
-  as-mut-slice-once a r r' e e' = one-part _ _ _ r r'
+  pub as_mut_slice_once : Twice fns.as_mut_slice.ended κs (fns.as_mut_slice.Reads.Learnt κs) (λ r e r' e'. (r.ref_ptr ≡ r'.ref_ptr) × (r.now ≡ r'.now))
+  as_mut_slice_once a r r' e e' = one_part _ _ _ r r'
 
-  pub deref-mut-once : Twice fns.deref_mut.ended κs (fns.deref_mut.Reads.Learnt κs) (λ r e r' e'. (r.ref_ptr ≡ r'.ref_ptr) × (r.now ≡ r'.now))
-  deref-mut-once a r r' e e' = one-part _ _ _ r r'
+  pub deref_mut_once : Twice fns.deref_mut.ended κs (fns.deref_mut.Reads.Learnt κs) (λ r e r' e'. (r.ref_ptr ≡ r'.ref_ptr) × (r.now ≡ r'.now))
+  deref_mut_once a r r' e e' = one_part _ _ _ r r'
 
 module _ (κs : Lfts 2) where
-  pub extend-from-slice-once : Twice fns.extend_from_slice.ended κs (fns.extend_from_slice.Reads.Learnt κs) (λ r e r' e'. (r ≡ r') × (e.1.0.now ≡ e'.1.0.now))
-  extend-from-slice-once a r r' e e' = one r r' _ _
+  pub extend_from_slice_once : Twice fns.extend_from_slice.ended κs (fns.extend_from_slice.Reads.Learnt κs) (λ r e r' e'. (r ≡ r') × (e.1.0.now ≡ e'.1.0.now))
+  extend_from_slice_once a r r' e e' = one r r' _ _
 
 -- The functions that put a state or an answer together name the very value.
 module _ (κs : Lfts 0) where
-  pub state-once : Twice state·fn.ended κs (state·fn.Reads.Learnt κs) (λ r e r' e'. r ≡ r')
-  state-once a r r' e e' p q = p ∙ sym q
+  pub state_once : Twice state·fn.ended κs (state·fn.Reads.Learnt κs) (λ r e r' e'. r ≡ r')
+  state_once a r r' e e' p q = p ∙ sym q
 
-  pub refused-once : Twice refused·fn.ended κs (refused·fn.Reads.Learnt κs) (λ r e r' e'. r ≡ r')
-  refused-once a r r' e e' p q = p ∙ sym q
+  pub refused_once : Twice refused·fn.ended κs (refused·fn.Reads.Learnt κs) (λ r e r' e'. r ≡ r')
+  refused_once a r r' e e' p q = p ∙ sym q
 
-  pub shows-once : Twice shows·fn.ended κs (shows·fn.Reads.Learnt κs) (λ r e r' e'. r ≡ r')
-  shows-once a r r' e e' p q = p ∙ sym q
+  pub shows_once : Twice shows·fn.ended κs (shows·fn.Reads.Learnt κs) (λ r e r' e'. r ≡ r')
+  shows_once a r r' e e' p q = p ∙ sym q
 
-  pub done-once : Twice done·fn.ended κs (done·fn.Reads.Learnt κs) (λ r e r' e'. r ≡ r')
-  done-once a r r' e e' p q = p ∙ sym q
+  pub done_once : Twice done·fn.ended κs (done·fn.Reads.Learnt κs) (λ r e r' e'. r ≡ r')
+  done_once a r r' e e' p q = p ∙ sym q

@@ -6,129 +6,129 @@ use contract.Lifetimes.{Lfts}
 use denote.Triple.Clauses.{AtExit}
 use borrow.Fn.World.{ArgsD, ResD}
 use Rattle.slots.specs.Layout.{vector}
-use Rattle.table.specs.Calls.{look, len, is_empty, read, reserve, tryReserve, tryReserveExact, range, new, withCapacity, fromElem}
-use Rattle.table.specs.Calls.{write, push, pop, insert, remove, swapRemove, truncate, resize, clear, extend}
+use Rattle.table.specs.Calls.{look, len, is_empty, read, reserve, try_reserve, try_reserve_exact, range, new, with_capacity, from_elem}
+use Rattle.table.specs.Calls.{write, push, pop, insert, remove, swap_remove, truncate, resize, clear, extend}
 use Rattle.table.specs.Tray.{Tray}
-use Rattle.table.specs.Parts.{Part, lends, lendsAll, inPart}
+use Rattle.table.specs.Parts.{Part, lends, lends_all, in_part}
 use Rattle.table.specs.World.{World, make, on, called, Ours}
-use Rattle.table.proofs.Laws.Named.{Is, ours-make, ours-on, ours-called}
-use Rattle.table.proofs.Laws.Keeps.{showing-kept}
-use Rattle.table.proofs.Theorems.AlwaysHome.{Homes, showing-homes}
-use Rattle.table.proofs.Theorems.Capacity.{Sized, showing-sized}
+use Rattle.table.proofs.Laws.Named.{Is, ours_make, ours_on, ours_called}
+use Rattle.table.proofs.Laws.Keeps.{showing_kept}
+use Rattle.table.proofs.Theorems.AlwaysHome.{Homes, showing_homes}
+use Rattle.table.proofs.Theorems.Capacity.{Sized, showing_sized}
 use Rattle.vector.specs.Seen.{tray, seen}
 use Rattle.vector.specs.Reading.{shown, reading}
 use Rattle.vector.proofs.Vector as fns
 
 -- In what follows a are the arguments, r is the result, and e the arguments as they are at the return.
 module _ (w : World) (κs : Lfts 1) where
-  pub new-ours : (a : ArgsD fns.new.signature κs) (r : ResD fns.new.signature κs) (e : AtExit fns.new.ended κs)
+  pub new_ours : (a : ArgsD fns.new.signature κs) (r : ResD fns.new.signature κs) (e : AtExit fns.new.ended κs)
       → fns.new.Reads.Learnt κs a r e → Ours w (make vector new a.0.now (seen r a.0.now))
-  new-ours a r e learnt = ours-make w _ _ _ _ refl learnt.row
+  new_ours a r e learnt = ours_make w _ _ _ _ refl learnt.row
 
-  pub with-capacity-ours : (a : ArgsD fns.with_capacity.signature κs) (r : ResD fns.with_capacity.signature κs) (e : AtExit fns.with_capacity.ended κs)
-      → fns.with_capacity.Reads.Learnt κs a r e → Ours w (make vector (withCapacity a.1.0) a.0.now (seen r a.0.now))
-  with-capacity-ours a r e learnt = ours-make w _ _ _ _ refl learnt.row
+  pub with_capacity_ours : (a : ArgsD fns.with_capacity.signature κs) (r : ResD fns.with_capacity.signature κs) (e : AtExit fns.with_capacity.ended κs)
+      → fns.with_capacity.Reads.Learnt κs a r e → Ours w (make vector (with_capacity a.1.0) a.0.now (seen r a.0.now))
+  with_capacity_ours a r e learnt = ours_make w _ _ _ _ refl learnt.row
 
-  pub from-elem-ours : (a : ArgsD fns.from_elem.signature κs) (r : ResD fns.from_elem.signature κs) (e : AtExit fns.from_elem.ended κs)
-      → fns.from_elem.Reads.Learnt κs a r e → Ours w (make vector (fromElem a.1.0 a.1.1.0) a.0.now (seen r e.0.now))
-  from-elem-ours a r e learnt = ours-make w _ _ _ _ refl learnt.row
+  pub from_elem_ours : (a : ArgsD fns.from_elem.signature κs) (r : ResD fns.from_elem.signature κs) (e : AtExit fns.from_elem.ended κs)
+      → fns.from_elem.Reads.Learnt κs a r e → Ours w (make vector (from_elem a.1.0 a.1.1.0) a.0.now (seen r e.0.now))
+  from_elem_ours a r e learnt = ours_make w _ _ _ _ refl learnt.row
 
 module _ (w : World) (i : ℕ) (κs : Lfts 1) where
   pub len-ours : (a : ArgsD fns.len.signature κs) (r : ResD fns.len.signature κs) (e : AtExit fns.len.ended κs)
       → Is w i vector (tray a.0 a.1.0.now) → fns.len.Reads.Learnt κs a r e → Ours w (on i (look len) (seen r a.1.0.now))
-  len-ours a r e is learnt = ours-on w i _ _ _ _ refl is learnt.row
+  len-ours a r e is learnt = ours_on w i _ _ _ _ refl is learnt.row
 
-  pub is-empty-ours : (a : ArgsD fns.is_empty.signature κs) (r : ResD fns.is_empty.signature κs) (e : AtExit fns.is_empty.ended κs)
+  pub is_empty_ours : (a : ArgsD fns.is_empty.signature κs) (r : ResD fns.is_empty.signature κs) (e : AtExit fns.is_empty.ended κs)
       → Is w i vector (tray a.0 a.1.0.now) → fns.is_empty.Reads.Learnt κs a r e → Ours w (on i (look is_empty) (seen r a.1.0.now))
-  is-empty-ours a r e is learnt = ours-on w i _ _ _ _ refl is learnt.row
+  is_empty_ours a r e is learnt = ours_on w i _ _ _ _ refl is learnt.row
 
-  pub read-ours : (a : ArgsD fns.read.signature κs) (r : ResD fns.read.signature κs) (e : AtExit fns.read.ended κs)
+  pub read_ours : (a : ArgsD fns.read.signature κs) (r : ResD fns.read.signature κs) (e : AtExit fns.read.ended κs)
       → Is w i vector (tray a.0 a.1.0.now) → fns.read.Reads.Learnt κs a r e → Ours w (on i (look (read a.1.1.0)) (seen r a.1.0.now))
-  read-ours a r e is learnt = ours-on w i _ _ _ _ refl is learnt.row
+  read_ours a r e is learnt = ours_on w i _ _ _ _ refl is learnt.row
 
-  pub reserve-ours : (a : ArgsD fns.reserve.signature κs) (r : ResD fns.reserve.signature κs) (e : AtExit fns.reserve.ended κs)
+  pub reserve_ours : (a : ArgsD fns.reserve.signature κs) (r : ResD fns.reserve.signature κs) (e : AtExit fns.reserve.ended κs)
       → Is w i vector (tray a.0 a.1.0.now) → fns.reserve.Reads.Learnt κs a r e → Ours w (on i (look (reserve a.1.1.0)) (seen r a.1.0.now))
-  reserve-ours a r e is learnt = ours-on w i _ _ _ _ refl is learnt.row
+  reserve_ours a r e is learnt = ours_on w i _ _ _ _ refl is learnt.row
 
-  pub try-reserve-ours : (a : ArgsD fns.try_reserve.signature κs) (r : ResD fns.try_reserve.signature κs) (e : AtExit fns.try_reserve.ended κs)
-      → Is w i vector (tray a.0 a.1.0.now) → fns.try_reserve.Reads.Learnt κs a r e → Ours w (on i (look (tryReserve a.1.1.0)) (seen r a.1.0.now))
-  try-reserve-ours a r e is learnt = ours-on w i _ _ _ _ refl is learnt.row
+  pub try_reserve_ours : (a : ArgsD fns.try_reserve.signature κs) (r : ResD fns.try_reserve.signature κs) (e : AtExit fns.try_reserve.ended κs)
+      → Is w i vector (tray a.0 a.1.0.now) → fns.try_reserve.Reads.Learnt κs a r e → Ours w (on i (look (try_reserve a.1.1.0)) (seen r a.1.0.now))
+  try_reserve_ours a r e is learnt = ours_on w i _ _ _ _ refl is learnt.row
 
-  pub try-reserve-exact-ours : (a : ArgsD fns.try_reserve_exact.signature κs) (r : ResD fns.try_reserve_exact.signature κs) (e : AtExit fns.try_reserve_exact.ended κs)
-      → Is w i vector (tray a.0 a.1.0.now) → fns.try_reserve_exact.Reads.Learnt κs a r e → Ours w (on i (look (tryReserveExact a.1.1.0)) (seen r a.1.0.now))
-  try-reserve-exact-ours a r e is learnt = ours-on w i _ _ _ _ refl is learnt.row
+  pub try_reserve_exact_ours : (a : ArgsD fns.try_reserve_exact.signature κs) (r : ResD fns.try_reserve_exact.signature κs) (e : AtExit fns.try_reserve_exact.ended κs)
+      → Is w i vector (tray a.0 a.1.0.now) → fns.try_reserve_exact.Reads.Learnt κs a r e → Ours w (on i (look (try_reserve_exact a.1.1.0)) (seen r a.1.0.now))
+  try_reserve_exact_ours a r e is learnt = ours_on w i _ _ _ _ refl is learnt.row
 
-  pub ask-range-ours : (a : ArgsD fns.ask_range.signature κs) (r : ResD fns.ask_range.signature κs) (e : AtExit fns.ask_range.ended κs)
+  pub ask_range_ours : (a : ArgsD fns.ask_range.signature κs) (r : ResD fns.ask_range.signature κs) (e : AtExit fns.ask_range.ended κs)
       → Is w i vector (tray a.0 a.1.0.now) → fns.ask_range.Reads.Learnt κs a r e → Ours w (on i (look (range a.1.1.0 a.1.1.1.0)) (seen r a.1.0.now))
-  ask-range-ours a r e is learnt = ours-on w i _ _ _ _ refl is learnt.row
+  ask_range_ours a r e is learnt = ours_on w i _ _ _ _ refl is learnt.row
 
-  pub write-ours : (a : ArgsD fns.write.signature κs) (r : ResD fns.write.signature κs) (e : AtExit fns.write.ended κs)
+  pub write_ours : (a : ArgsD fns.write.signature κs) (r : ResD fns.write.signature κs) (e : AtExit fns.write.ended κs)
       → Is w i vector (tray a.0 a.1.0.now) → fns.write.Reads.Learnt κs a r e → Ours w (on i (write a.1.1.0 a.1.1.1.0) (seen r e.1.0.now))
-  write-ours a r e is learnt = ours-on w i _ _ _ _ refl is learnt.row
+  write_ours a r e is learnt = ours_on w i _ _ _ _ refl is learnt.row
 
-  pub push-ours : (a : ArgsD fns.push.signature κs) (r : ResD fns.push.signature κs) (e : AtExit fns.push.ended κs)
+  pub push_ours : (a : ArgsD fns.push.signature κs) (r : ResD fns.push.signature κs) (e : AtExit fns.push.ended κs)
       → Is w i vector (tray a.0 a.1.0.now) → fns.push.Reads.Learnt κs a r e → Ours w (on i (push a.1.1.0) (seen r e.1.0.now))
-  push-ours a r e is learnt = ours-on w i _ _ _ _ refl is learnt.row
+  push_ours a r e is learnt = ours_on w i _ _ _ _ refl is learnt.row
 
-  pub pop-ours : (a : ArgsD fns.pop.signature κs) (r : ResD fns.pop.signature κs) (e : AtExit fns.pop.ended κs)
+  pub pop_ours : (a : ArgsD fns.pop.signature κs) (r : ResD fns.pop.signature κs) (e : AtExit fns.pop.ended κs)
       → Is w i vector (tray a.0 a.1.0.now) → fns.pop.Reads.Learnt κs a r e → Ours w (on i pop (seen r e.1.0.now))
-  pop-ours a r e is learnt = ours-on w i _ _ _ _ refl is learnt.row
+  pop_ours a r e is learnt = ours_on w i _ _ _ _ refl is learnt.row
 
-  pub insert-ours : (a : ArgsD fns.insert.signature κs) (r : ResD fns.insert.signature κs) (e : AtExit fns.insert.ended κs)
+  pub insert_ours : (a : ArgsD fns.insert.signature κs) (r : ResD fns.insert.signature κs) (e : AtExit fns.insert.ended κs)
       → Is w i vector (tray a.0 a.1.0.now) → fns.insert.Reads.Learnt κs a r e → Ours w (on i (insert a.1.1.0 a.1.1.1.0) (seen r e.1.0.now))
-  insert-ours a r e is learnt = ours-on w i _ _ _ _ refl is learnt.row
+  insert_ours a r e is learnt = ours_on w i _ _ _ _ refl is learnt.row
 
-  pub remove-ours : (a : ArgsD fns.remove.signature κs) (r : ResD fns.remove.signature κs) (e : AtExit fns.remove.ended κs)
+  pub remove_ours : (a : ArgsD fns.remove.signature κs) (r : ResD fns.remove.signature κs) (e : AtExit fns.remove.ended κs)
       → Is w i vector (tray a.0 a.1.0.now) → fns.remove.Reads.Learnt κs a r e → Ours w (on i (remove a.1.1.0) (seen r e.1.0.now))
-  remove-ours a r e is learnt = ours-on w i _ _ _ _ refl is learnt.row
+  remove_ours a r e is learnt = ours_on w i _ _ _ _ refl is learnt.row
 
-  pub swap-remove-ours : (a : ArgsD fns.swap_remove.signature κs) (r : ResD fns.swap_remove.signature κs) (e : AtExit fns.swap_remove.ended κs)
-      → Is w i vector (tray a.0 a.1.0.now) → fns.swap_remove.Reads.Learnt κs a r e → Ours w (on i (swapRemove a.1.1.0) (seen r e.1.0.now))
-  swap-remove-ours a r e is learnt = ours-on w i _ _ _ _ refl is learnt.row
+  pub swap_remove_ours : (a : ArgsD fns.swap_remove.signature κs) (r : ResD fns.swap_remove.signature κs) (e : AtExit fns.swap_remove.ended κs)
+      → Is w i vector (tray a.0 a.1.0.now) → fns.swap_remove.Reads.Learnt κs a r e → Ours w (on i (swap_remove a.1.1.0) (seen r e.1.0.now))
+  swap_remove_ours a r e is learnt = ours_on w i _ _ _ _ refl is learnt.row
 
-  pub truncate-ours : (a : ArgsD fns.truncate.signature κs) (r : ResD fns.truncate.signature κs) (e : AtExit fns.truncate.ended κs)
+  pub truncate_ours : (a : ArgsD fns.truncate.signature κs) (r : ResD fns.truncate.signature κs) (e : AtExit fns.truncate.ended κs)
       → Is w i vector (tray a.0 a.1.0.now) → fns.truncate.Reads.Learnt κs a r e → Ours w (on i (truncate a.1.1.0) (seen r e.1.0.now))
-  truncate-ours a r e is learnt = ours-on w i _ _ _ _ refl is learnt.row
+  truncate_ours a r e is learnt = ours_on w i _ _ _ _ refl is learnt.row
 
-  pub resize-ours : (a : ArgsD fns.resize.signature κs) (r : ResD fns.resize.signature κs) (e : AtExit fns.resize.ended κs)
+  pub resize_ours : (a : ArgsD fns.resize.signature κs) (r : ResD fns.resize.signature κs) (e : AtExit fns.resize.ended κs)
       → Is w i vector (tray a.0 a.1.0.now) → fns.resize.Reads.Learnt κs a r e → Ours w (on i (resize a.1.1.0 a.1.1.1.0) (seen r e.1.0.now))
-  resize-ours a r e is learnt = ours-on w i _ _ _ _ refl is learnt.row
+  resize_ours a r e is learnt = ours_on w i _ _ _ _ refl is learnt.row
 
-  pub clear-ours : (a : ArgsD fns.clear.signature κs) (r : ResD fns.clear.signature κs) (e : AtExit fns.clear.ended κs)
+  pub clear_ours : (a : ArgsD fns.clear.signature κs) (r : ResD fns.clear.signature κs) (e : AtExit fns.clear.ended κs)
       → Is w i vector (tray a.0 a.1.0.now) → fns.clear.Reads.Learnt κs a r e → Ours w (on i clear (seen r e.1.0.now))
-  clear-ours a r e is learnt = ours-on w i _ _ _ _ refl is learnt.row
+  clear_ours a r e is learnt = ours_on w i _ _ _ _ refl is learnt.row
 
 module _ (w : World) (i : ℕ) (κs : Lfts 2) where
-  pub extend-from-slice-ours : (a : ArgsD fns.extend_from_slice.signature κs) (r : ResD fns.extend_from_slice.signature κs) (e : AtExit fns.extend_from_slice.ended κs)
+  pub extend_from_slice_ours : (a : ArgsD fns.extend_from_slice.signature κs) (r : ResD fns.extend_from_slice.signature κs) (e : AtExit fns.extend_from_slice.ended κs)
       → Is w i vector (tray a.0 a.1.0.now) → fns.extend_from_slice.Reads.Learnt κs a r e → Ours w (on i (extend a.1.1.0.now) (seen r e.1.0.now))
-  extend-from-slice-ours a r e is learnt = ours-on w i _ _ _ _ refl is learnt.row
+  extend_from_slice_ours a r e is learnt = ours_on w i _ _ _ _ refl is learnt.row
 
 -- a part that is only read leaves an empty ring's head at 0, as it leaves everything
-pub reading-homes : (part : Tray → Part) → Homes (reading part)
-reading-homes part = showing-homes _ _ (λ k t. refl)
+pub reading_homes : (part : Tray → Part) → Homes (reading part)
+reading_homes part = showing_homes _ _ (λ k t. refl)
 
 -- and as many slots as there were
-pub reading-sized : (part : Tray → Part) → Sized (reading part)
-reading-sized part = showing-sized _ _ (λ k t. refl)
+pub reading_sized : (part : Tray → Part) → Sized (reading part)
+reading_sized part = showing_sized _ _ (λ k t. refl)
 
 -- The parts that are only read. That the slots stay is the `&`'s doing; that the part is the one lent is the promise's.
 module _ (part : Tray → Part) (w : World) (i : ℕ) (t : Tray) where
-  pub reads : (held : List ℕ) → Is w i vector t → held ≡ inPart (part t) t.slots → Ours w (called i (reading part) (shown held t))
-  reads held is holds = ours-called w i _ _ _ _ (showing-kept _ _ (λ k t. refl)) refl is (ap (λ l. shown l t) holds)
+  pub reads : (held : List ℕ) → Is w i vector t → held ≡ in_part (part t) t.slots → Ours w (called i (reading part) (shown held t))
+  reads held is holds = ours_called w i _ _ _ _ (showing_kept _ _ (λ k t. refl)) refl is (ap (λ l. shown l t) holds)
 
 module _ (w : World) (i : ℕ) (κs : Lfts 1) where
-  pub range-ours : (a : ArgsD fns.range.signature κs) (r : ResD fns.range.signature κs) (e : AtExit fns.range.ended κs)
+  pub range_ours : (a : ArgsD fns.range.signature κs) (r : ResD fns.range.signature κs) (e : AtExit fns.range.ended κs)
       → Is w i vector (tray a.0 a.1.0.now) → fns.range.Reads.Learnt κs a r e → Ours w (called i (reading (lends a.1.1.0 a.1.1.1.0)) (shown r.now (tray a.0 a.1.0.now)))
-  range-ours a r e is learnt = reads (lends a.1.1.0 a.1.1.1.0) w i _ _ is learnt.holds
+  range_ours a r e is learnt = reads (lends a.1.1.0 a.1.1.1.0) w i _ _ is learnt.holds
 
-  pub as-slice-ours : (a : ArgsD fns.as_slice.signature κs) (r : ResD fns.as_slice.signature κs) (e : AtExit fns.as_slice.ended κs)
-      → Is w i vector (tray a.0 a.1.0.now) → fns.as_slice.Reads.Learnt κs a r e → Ours w (called i (reading lendsAll) (shown r.now (tray a.0 a.1.0.now)))
-  as-slice-ours a r e is learnt = reads lendsAll w i _ _ is learnt.holds
+  pub as_slice_ours : (a : ArgsD fns.as_slice.signature κs) (r : ResD fns.as_slice.signature κs) (e : AtExit fns.as_slice.ended κs)
+      → Is w i vector (tray a.0 a.1.0.now) → fns.as_slice.Reads.Learnt κs a r e → Ours w (called i (reading lends_all) (shown r.now (tray a.0 a.1.0.now)))
+  as_slice_ours a r e is learnt = reads lends_all w i _ _ is learnt.holds
 
-  pub as-ref-ours : (a : ArgsD fns.as_ref.signature κs) (r : ResD fns.as_ref.signature κs) (e : AtExit fns.as_ref.ended κs)
-      → Is w i vector (tray a.0 a.1.0.now) → fns.as_ref.Reads.Learnt κs a r e → Ours w (called i (reading lendsAll) (shown r.now (tray a.0 a.1.0.now)))
-  as-ref-ours a r e is learnt = reads lendsAll w i _ _ is learnt.holds
+  pub as_ref_ours : (a : ArgsD fns.as_ref.signature κs) (r : ResD fns.as_ref.signature κs) (e : AtExit fns.as_ref.ended κs)
+      → Is w i vector (tray a.0 a.1.0.now) → fns.as_ref.Reads.Learnt κs a r e → Ours w (called i (reading lends_all) (shown r.now (tray a.0 a.1.0.now)))
+  as_ref_ours a r e is learnt = reads lends_all w i _ _ is learnt.holds
 
-  pub deref-ours : (a : ArgsD fns.deref.signature κs) (r : ResD fns.deref.signature κs) (e : AtExit fns.deref.ended κs)
-      → Is w i vector (tray a.0 a.1.0.now) → fns.deref.Reads.Learnt κs a r e → Ours w (called i (reading lendsAll) (shown r.now (tray a.0 a.1.0.now)))
-  deref-ours a r e is learnt = reads lendsAll w i _ _ is learnt.holds
+  pub deref_ours : (a : ArgsD fns.deref.signature κs) (r : ResD fns.deref.signature κs) (e : AtExit fns.deref.ended κs)
+      → Is w i vector (tray a.0 a.1.0.now) → fns.deref.Reads.Learnt κs a r e → Ours w (called i (reading lends_all) (shown r.now (tray a.0 a.1.0.now)))
+  deref_ours a r e is learnt = reads lends_all w i _ _ is learnt.holds

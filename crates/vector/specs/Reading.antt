@@ -3,7 +3,7 @@ use Rattle.std.specs.Prelude.{ℕ, List, length}
 use Rattle.table.specs.Tray.{Tray}
 use Rattle.table.specs.Calls.{vectors}
 use Rattle.table.specs.Does.{Outcome, gives}
-use Rattle.table.specs.Parts.{Part, inPart}
+use Rattle.table.specs.Parts.{Part, in_part}
 use Rattle.table.specs.Promise.{Promise, showing}
 
 -- what is seen of such a call: how many entries the part holds, and the container as it was
@@ -11,4 +11,4 @@ abbrev pub shown : (part : List ℕ) → Tray → Outcome
 shown part t = gives (length part) 0 t.head t.len t.slots
 
 abbrev pub reading : (lends : Tray → Part) → Promise
-reading lends = showing vectors (λ k t. shown (inPart (lends t) t.slots) t)
+reading lends = showing vectors (λ k t. shown (in_part (lends t) t.slots) t)

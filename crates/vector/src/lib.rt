@@ -3,7 +3,7 @@ pub mod looks; // looks.rt: the makings, and the calls that change nothing
 pub mod parts; // parts.rt: the parts of the slots that are lent on
 
 ghost use Rattle.std.specs.Prelude.{◌≡◌};
-ghost use Rattle.table.specs.Calls.{write, push, pop, insert, remove, swapRemove, truncate, resize, clear, extend};
+ghost use Rattle.table.specs.Calls.{write, push, pop, insert, remove, swap_remove, truncate, resize, clear, extend};
 ghost use Rattle.slots.specs.Total.{changed};
 ghost use Rattle.runs.specs.Width.{summing};
 ghost use Rattle.vector.specs.Seen.{Meets, state, says, lit};
@@ -115,7 +115,7 @@ impl Vector {
 
     // The last entry, where it is the one removed, is not stored back.
     pub fn swap_remove(self, slots: &mut [u32], i: usize) -> Answer
-        ensures { Meets (swapRemove i) self slots.old result slots.new }
+        ensures { Meets (swap_remove i) self slots.old result slots.new }
     {
         let cap = slots.len();
         let len = self.len;

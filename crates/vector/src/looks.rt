@@ -1,5 +1,5 @@
 // How a vector is made, and the calls that change nothing.
-ghost use Rattle.table.specs.Calls.{new, withCapacity, fromElem, look, len, is_empty, read, reserve, tryReserve, tryReserveExact, range};
+ghost use Rattle.table.specs.Calls.{new, with_capacity, from_elem, look, len, is_empty, read, reserve, try_reserve, try_reserve_exact, range};
 ghost use Rattle.vector.specs.Seen.{Meets, Makes};
 
 use super::{Answer, Vector, done, lit, refused, shows, state};
@@ -16,7 +16,7 @@ impl Vector {
     }
 
     pub fn with_capacity(slots: &[u32], capacity: usize) -> Answer
-        ensures { Makes (withCapacity capacity) slots.now result slots.now }
+        ensures { Makes (with_capacity capacity) slots.now result slots.now }
     {
         let cap = slots.len();
         if slots::MOST < cap {
@@ -30,7 +30,7 @@ impl Vector {
 
     // The slots past k keep what they held.
     pub fn from_elem(slots: &mut [u32], k: usize, x: u32) -> Answer
-        ensures { Makes (fromElem k x) slots.old result slots.new }
+        ensures { Makes (from_elem k x) slots.old result slots.new }
     {
         let cap = slots.len();
         if slots::MOST < cap {
@@ -99,13 +99,13 @@ impl Vector {
 
     // The slots are lent, so that nothing can fail to be found: this asks what `reserve` asks.
     pub fn try_reserve(self, slots: &[u32], k: usize) -> Answer
-        ensures { Meets (look (tryReserve k)) self slots.now result slots.now }
+        ensures { Meets (look (try_reserve k)) self slots.now result slots.now }
     {
         self.reserve(slots, k)
     }
 
     pub fn try_reserve_exact(self, slots: &[u32], k: usize) -> Answer
-        ensures { Meets (look (tryReserveExact k)) self slots.now result slots.now }
+        ensures { Meets (look (try_reserve_exact k)) self slots.now result slots.now }
     {
         self.try_reserve(slots, k)
     }

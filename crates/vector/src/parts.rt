@@ -1,6 +1,6 @@
 // The parts of a vector's slots that are lent on: no number goes with them, `ask_range` answers for the same state and range.
 ghost use Rattle.runs.specs.Width.{bytes};
-ghost use Rattle.table.specs.Parts.{lends, lendsAll};
+ghost use Rattle.table.specs.Parts.{lends, lends_all};
 ghost use Rattle.table.specs.Lent.{Lent};
 ghost use Rattle.vector.specs.Seen.{tray};
 
@@ -23,27 +23,27 @@ impl Vector {
     }
 
     pub fn as_slice(self, slots: &[u32]) -> &[u32]
-        ensures { Lent bytes (lendsAll (tray self slots.now)) slots.entry result }
+        ensures { Lent bytes (lends_all (tray self slots.now)) slots.entry result }
     {
         let len = self.len;
         self.range(slots, 0, len)
     }
 
     pub fn as_ref(self, slots: &[u32]) -> &[u32]
-        ensures { Lent bytes (lendsAll (tray self slots.now)) slots.entry result }
+        ensures { Lent bytes (lends_all (tray self slots.now)) slots.entry result }
     {
         self.as_slice(slots) // upstream's AsRef
     }
 
     pub fn deref(self, slots: &[u32]) -> &[u32]
-        ensures { Lent bytes (lendsAll (tray self slots.now)) slots.entry result }
+        ensures { Lent bytes (lends_all (tray self slots.now)) slots.entry result }
     {
         self.as_slice(slots) // upstream's Deref
     }
 
     // For writing: slots 0 to n and no more. What the slots hold once it is given back no promise can name (docs/EXCEPTIONS.md).
     pub fn as_mut_slice(self, slots: &mut [u32]) -> &mut [u32]
-        ensures { Lent bytes (lendsAll (tray self slots.old)) slots.entry result }
+        ensures { Lent bytes (lends_all (tray self slots.old)) slots.entry result }
     {
         let cap = slots.len();
         let len = self.len;
@@ -54,7 +54,7 @@ impl Vector {
     }
 
     pub fn deref_mut(self, slots: &mut [u32]) -> &mut [u32]
-        ensures { Lent bytes (lendsAll (tray self slots.old)) slots.entry result }
+        ensures { Lent bytes (lends_all (tray self slots.old)) slots.entry result }
     {
         self.as_mut_slice(slots)
     }

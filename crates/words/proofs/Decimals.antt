@@ -9,22 +9,22 @@ use borrow.Author.Tests.{eq-eqb, ne_eqb, lt-ltb, le-ltb, leb-true, leb-false}
 use lib.Dec.{leb}
 use lib.ListN.{take}
 use Rattle.io.specs.Digits.{last_digits, IsDigitCount}
-use Rattle.words.specs.Words.{bytes, decimalIn, decimal, numbered, several}
+use Rattle.words.specs.Words.{bytes, decimal_in, decimal, numbered, several}
 use Rattle.words.specs.Wrote.{Wrote}
 use Rattle.words.proofs.Writing.{wrote_none, wrote_then}
 
-one-digit : (most n : ℕ) → n < 10 → last_digits 10 1 n ≡ decimalIn most n
-unfolding decimalIn
-one-digit zero n h = let e : n % 10 ≡ n = omega arith in rw (e, lt-ltb n 10 h)
-one-digit (suc most) n h = let e : n % 10 ≡ n = omega arith in rw (e, lt-ltb n 10 h)
+one_digit : (most n : ℕ) → n < 10 → last_digits 10 1 n ≡ decimal_in most n
+unfolding decimal_in
+one_digit zero n h = let e : n % 10 ≡ n = omega arith in rw (e, lt-ltb n 10 h)
+one_digit (suc most) n h = let e : n % 10 ≡ n = omega arith in rw (e, lt-ltb n 10 h)
 
 some : (k : ℕ) → 1 ≤ 10 ^ k
 some k = let least : 0 ≤ k = omega arith in pow-le-pow_right {n = 10} (omega arith) least
 
-digits_in : (most k n : ℕ) → n ≤ most → IsDigitCount 10 1 n k → last_digits 10 k n ≡ decimalIn most n
-unfolding decimalIn
+digits_in : (most k n : ℕ) → n ≤ most → IsDigitCount 10 1 n k → last_digits 10 k n ≡ decimal_in most n
+unfolding decimal_in
 digits_in most zero n h f = absurd (not-suc-le-zero f.0)
-digits_in most (suc zero) n h f = one-digit most n (omega (arith, f.1))
+digits_in most (suc zero) n h f = one_digit most n (omega (arith, f.1))
 digits_in zero (suc (suc k)) n h f =
     let less : suc (suc k) - 1 ≡ suc k = omega arith in
     let big : 10 ^ (suc k) ≤ n = rw less at (f.2 (omega arith)) in
@@ -56,21 +56,21 @@ few k n small f = go (leb k 20) refl
 
 -- a is the text before, at the place; b and c are the text after each piece, m and m2 the places behind them
 module _ {a b : List ℕ} {at m : ℕ} where
-  pub decimal-wrote : (t : List ℕ) (n k : ℕ) → Wrote a at (take k t) m b → take k t ≡ last_digits 10 k n → IsDigitCount 10 1 n k → Wrote a at (decimal n) m b
-  decimal-wrote t n k p e f = rw (← digits_decimal k n f, ← e) p
+  pub decimal_wrote : (t : List ℕ) (n k : ℕ) → Wrote a at (take k t) m b → take k t ≡ last_digits 10 k n → IsDigitCount 10 1 n k → Wrote a at (decimal n) m b
+  decimal_wrote t n k p e f = rw (← digits_decimal k n f, ← e) p
 
   module _ {c : List ℕ} {m2 : ℕ} where
-    pub numbered-wrote : (n : ℕ) (words : List ℕ) → Wrote a at (decimal n) m b → Wrote b m words m2 c → Wrote a at (numbered n words) m2 c
+    pub numbered_wrote : (n : ℕ) (words : List ℕ) → Wrote a at (decimal n) m b → Wrote b m words m2 c → Wrote a at (numbered n words) m2 c
     unfolding numbered
-    numbered-wrote n words p q = wrote_then p q
+    numbered_wrote n words p q = wrote_then p q
 
 module _ {a b c d : List ℕ} {at m m2 m3 : ℕ} where
-  pub several-one : (n : ℕ) (what : List ℕ) → Wrote a at (decimal n) m b → Wrote b m (bytes " ") m2 c → Wrote c m2 what m3 d → n ≡ 1 → Wrote a at (several n what) m3 d
+  pub several_one : (n : ℕ) (what : List ℕ) → Wrote a at (decimal n) m b → Wrote b m (bytes " ") m2 c → Wrote c m2 what m3 d → n ≡ 1 → Wrote a at (several n what) m3 d
   unfolding several
-  several-one n what p q r e = rw (eq-eqb n 1 e) (wrote_then p (wrote_then q (wrote_then r wrote_none)))
+  several_one n what p q r e = rw (eq-eqb n 1 e) (wrote_then p (wrote_then q (wrote_then r wrote_none)))
 
   module _ {f : List ℕ} {m4 : ℕ} where
-    pub several-more : (n : ℕ) (what : List ℕ) → Wrote a at (decimal n) m b → Wrote b m (bytes " ") m2 c → Wrote c m2 what m3 d → Wrote d m3 (bytes "s") m4 f → (n ≡ 1 → ⊥)
+    pub several_more : (n : ℕ) (what : List ℕ) → Wrote a at (decimal n) m b → Wrote b m (bytes " ") m2 c → Wrote c m2 what m3 d → Wrote d m3 (bytes "s") m4 f → (n ≡ 1 → ⊥)
         → Wrote a at (several n what) m4 f
     unfolding several
-    several-more n what p q r s other = rw (ne_eqb n 1 other) (wrote_then p (wrote_then q (wrote_then r s)))
+    several_more n what p q r s other = rw (ne_eqb n 1 other) (wrote_then p (wrote_then q (wrote_then r s)))

@@ -30,32 +30,32 @@ pub record Left (a : List ℕ) (at : ℕ) (all : List ℕ) (end : ℕ) (s : List
   pub behind : end + length s ≡ at + length all
   pub long : length b ≡ length a
 
-pub left-all : {a : List ℕ} {at : ℕ} {all : List ℕ} → Left a at all at all a
-left-all = record { bytes = refl; behind = refl; long = refl }
+pub left_all : {a : List ℕ} {at : ℕ} {all : List ℕ} → Left a at all at all a
+left_all = record { bytes = refl; behind = refl; long = refl }
 
-pub left-none : {a b : List ℕ} {at end : ℕ} {all : List ℕ} → Left a at all end [] b → Wrote a at all end b
+pub left_none : {a b : List ℕ} {at end : ℕ} {all : List ℕ} → Left a at all end [] b → Wrote a at all end b
 unfolding put
-left-none p = record { bytes = p.bytes; behind = omega (arith, p.behind); long = p.long }
+left_none p = record { bytes = p.bytes; behind = omega (arith, p.behind); long = p.long }
 
-pub left-then : {a b c : List ℕ} {at end e : ℕ} {all s s2 : List ℕ} → Left a at all end (s ++ s2) b → Wrote b end s e c → Left a at all e s2 c
-left-then {a} {b} {c} {at} {end} {e} {all} {s} {s2} p q = record {
+pub left_then : {a b c : List ℕ} {at end e : ℕ} {all s s2 : List ℕ} → Left a at all end (s ++ s2) b → Wrote b end s e c → Left a at all e s2 c
+left_then {a} {b} {c} {at} {end} {e} {all} {s} {s2} p q = record {
   bytes = ap (λ t. put t e s2) q.bytes ∙ put-after b s s2 end (length s) e refl (sym q.behind) ∙ p.bytes;
   behind = omega (arith, p.behind, q.behind, length-append s s2);
   long = q.long ∙ p.long;
 }
 
 -- of a loop that writes byte after byte of a text
-pub text-start : (a : List ℕ) (at : ℕ) (text : List ℕ) → Left a at text (at + 0) text a
-text-start a at text = let e : at + 0 ≡ at = omega arith in rw e left-all
+pub text_start : (a : List ℕ) (at : ℕ) (text : List ℕ) → Left a at text (at + 0) text a
+text_start a at text = let e : at + 0 ≡ at = omega arith in rw e left_all
 
-pub left-cons : (text : List ℕ) (i : ℕ) → i < length text → drop i text ≡ get_or text i 0 ∷ drop (i + 1) text
-left-cons text i h = rw (add-one, drop-cons text i 0)
+pub left_cons : (text : List ℕ) (i : ℕ) → i < length text → drop i text ≡ get_or text i 0 ∷ drop (i + 1) text
+left_cons text i h = rw (add-one, drop-cons text i 0)
 
 module _ {a b : List ℕ} {at : ℕ} (text : List ℕ) (i : ℕ) where
-  pub text-turn : Left a at text (at + i) (drop i text) b → i < length text → Left a at text (at + (i + 1)) (drop (i + 1) text) (set b (at + i) (get_or text i 0))
-  text-turn p h =
+  pub text_turn : Left a at text (at + i) (drop i text) b → i < length text → Left a at text (at + (i + 1)) (drop (i + 1) text) (set b (at + i) (get_or text i 0))
+  text_turn p h =
       let e : at + i + 1 ≡ at + (i + 1) = omega arith in
-      rw (← e) (left-then {s = get_or text i 0 ∷ []} (rw (left-cons text i h) at p) (wrote_one b (at + i) (get_or text i 0)))
+      rw (← e) (left_then {s = get_or text i 0 ∷ []} (rw (left_cons text i h) at p) (wrote_one b (at + i) (get_or text i 0)))
 
-  pub text-end : Left a at text (at + i) (drop i text) b → length text ≤ i → Wrote a at text (at + i) b
-  text-end p h = left-none (rw (drop_of_length-le text {i = i} h) at p)
+  pub text_end_law : Left a at text (at + i) (drop i text) b → length text ≤ i → Wrote a at text (at + i) b
+  text_end_law p h = left_none (rw (drop_of_length-le text {i = i} h) at p)

@@ -8,12 +8,12 @@ bytes none = []
 bytes (c then s) = code c ∷ bytes s
 
 -- A digit below 10 alone; of other numbers the last digit, after those of a tenth. A number has fewer digits than it counts, but for 0.
-unfoldable pub decimalIn : (most n : ℕ) → List ℕ
-decimalIn zero n = (48 + n) ∷ []
-decimalIn (suc most) n = cond (ltb n 10) ((48 + n) ∷ []) (decimalIn most (n / 10) ++ ((48 + n % 10) ∷ []))
+unfoldable pub decimal_in : (most n : ℕ) → List ℕ
+decimal_in zero n = (48 + n) ∷ []
+decimal_in (suc most) n = cond (ltb n 10) ((48 + n) ∷ []) (decimal_in most (n / 10) ++ ((48 + n % 10) ∷ []))
 
 unfoldable pub decimal : (n : ℕ) → List ℕ
-decimal n = decimalIn n n
+decimal n = decimal_in n n
 
 -- a number, and words right behind it
 unfoldable pub numbered : (n : ℕ) (words : List ℕ) → List ℕ

@@ -4,5 +4,5 @@ use Rattle.runs.proofs.Whole.{whole}
 use Rattle.cursors.proofs.filled.Statement.{statement}
 use Rattle.cursors.proofs.filled.Tie as tie
 
-pub filled-spec : {M : Type 1} → statement M
-filled-spec = tie.close (tie.spec (λ c κs. search rules) (λ c κs. search rules) (λ c κs. search rules) (λ c. cc (whole _ _ c.before.before.more.ensures)))
+pub filled_spec : {M : Type 1} → statement M
+filled_spec = tie.close (tie.spec (λ c κs. search rules) (λ c κs. search rules) (λ c κs. search rules) (λ c. cc (whole _ _ c.before.before.more.ensures)))

@@ -4,27 +4,27 @@ use mathlib.Core.Path.{◌≡◌}
 use mathlib.Core.Bool.{not, ◌||◌}
 use borrow.Author.Rules.{rules}
 use lib.ListN.{length, drop}
-use Rattle.digits.specs.Hex.{areDigits}
-use Rattle.digits.proofs.Digits.{bad-turn, bad-end}
+use Rattle.digits.specs.Hex.{are_digits}
+use Rattle.digits.proofs.Digits.{bad_turn, bad_end}
 use Rattle.digits.proofs.are_digits.Statement.{statement}
 use Rattle.digits.proofs.are_digits.Tie as tie
 
-abbrev invariant-loop : tie.invariant-loop
-invariant-loop part bad₀ i₀ bad i = (i ≤ length part) × (bad || not (areDigits (drop i part)) ≡ not (areDigits part))
+abbrev invariant_loop : tie.invariant_loop
+invariant_loop part bad₀ i₀ bad i = (i ≤ length part) × (bad || not (are_digits (drop i part)) ≡ not (are_digits part))
 
-abbrev decreases-loop : tie.decreases-loop
-decreases-loop part bad₀ i₀ bad i = length part - i
+abbrev decreases_loop : tie.decreases_loop
+decreases_loop part bad₀ i₀ bad i = length part - i
 
-pub are-digits-spec : {M : Type 1} → statement M
-are-digits-spec =
+pub are_digits_spec : {M : Type 1} → statement M
+are_digits_spec =
     tie.close
     (tie.spec
-    invariant-loop
-    decreases-loop
+    invariant_loop
+    decreases_loop
     (λ c. search rules)
     (λ c. search rules)
     (λ c κs. search rules)
     (λ c. search rules)
     (λ c. search rules)
-    (λ c. search (bad-turn, rules))
-    (λ c. search (bad-end, rules)))
+    (λ c. search (bad_turn, rules))
+    (λ c. search (bad_end, rules)))

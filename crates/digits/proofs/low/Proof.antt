@@ -4,30 +4,30 @@ use mathlib.Core.Path.{◌≡◌}
 use native.Mathlib.Omega.{arith}
 use borrow.Author.Rules.{rules}
 use lib.ListN.{length, drop}
-use Rattle.digits.specs.Low.{lowsFrom}
-use Rattle.digits.proofs.Digits.{low_turn, low_end, low-many, grows, fits, times-fits, none-small, small-end}
+use Rattle.digits.specs.Low.{lows_from}
+use Rattle.digits.proofs.Digits.{low_turn, low_end, low_many, grows, fits, times_fits, none_small, small_end}
 use Rattle.digits.proofs.low.Statement.{statement}
 use Rattle.digits.proofs.low.Tie as tie
 
-abbrev invariant-loop : tie.invariant-loop
-invariant-loop part x₀ i₀ x i = (i ≤ length part) × (lowsFrom x (drop i part) ≡ lowsFrom 0 part) × (x < 16 ^ i)
+abbrev invariant_loop : tie.invariant_loop
+invariant_loop part x₀ i₀ x i = (i ≤ length part) × (lows_from x (drop i part) ≡ lows_from 0 part) × (x < 16 ^ i)
 
-abbrev decreases-loop : tie.decreases-loop
-decreases-loop part x₀ i₀ x i = length part - i
+abbrev decreases_loop : tie.decreases_loop
+decreases_loop part x₀ i₀ x i = length part - i
 
-pub low-spec : {M : Type 1} → statement M
-low-spec =
+pub low_spec : {M : Type 1} → statement M
+low_spec =
     tie.close
     (tie.spec
-    invariant-loop
-    decreases-loop
-    (λ c. search (low-many, none-small))
+    invariant_loop
+    decreases_loop
+    (λ c. search (low_many, none_small))
     (λ c. search rules)
-    (λ c. record { fits = times-fits _ _ c.before.loop.invariant.2 (omega arith) })
+    (λ c. record { fits = times_fits _ _ c.before.loop.invariant.2 (omega arith) })
     (λ c. search rules)
     (λ c κs. search rules)
     (λ c. record { fits = fits _ _ _ c.before.before.before.loop.invariant.2 c.low_of.ensures.1 (omega arith) })
     (λ c. search rules)
     (λ c. search rules)
     (λ c. search (low_turn, grows, rules))
-    (λ c. search (low_end, small-end, rules)))
+    (λ c. search (low_end, small_end, rules)))

@@ -5,5 +5,5 @@ use borrow.Author.Rules.{rules}
 use Rattle.digits.proofs.low_of.Statement.{statement}
 use Rattle.digits.proofs.low_of.Tie as tie
 
-pub low-of-spec : {M : Type 1} → statement M
-low-of-spec = tie.close (tie.spec (λ c. search rules) (λ c. search rules) (λ c. search rules) (λ c. (refl, omega arith)))
+pub low_of_spec : {M : Type 1} → statement M
+low_of_spec = tie.close (tie.spec (λ c. search rules) (λ c. search rules) (λ c. search rules) (λ c. (refl, omega arith)))

@@ -5,32 +5,32 @@ use native.Mathlib.Omega.{arith}
 use borrow.Author.Rules.{rules}
 use lib.ListN.{length}
 use Rattle.digits.specs.Hex.{hex}
-use Rattle.digits.specs.Put.{put, putWhole}
-use Rattle.digits.proofs.Puts.{put-fits, put-stays, put-digit, put-none}
+use Rattle.digits.specs.Put.{put, put_whole}
+use Rattle.digits.proofs.Puts.{put_fits, put_stays, put_digit, put_none}
 use Rattle.digits.proofs.put_hex.Statement.{statement}
 use Rattle.digits.proofs.put_hex.Tie as tie
 
-abbrev invariant-loop : tie.invariant-loop
-invariant-loop text₀ at count x room₀ k₀ rest₀ text k rest = (k ≤ count) × (length text ≡ length text₀) × (put text at (hex k rest) ≡ putWhole text₀ at (hex count x))
+abbrev invariant_loop : tie.invariant_loop
+invariant_loop text₀ at count x room₀ k₀ rest₀ text k rest = (k ≤ count) × (length text ≡ length text₀) × (put text at (hex k rest) ≡ put_whole text₀ at (hex count x))
 
-abbrev decreases-loop : tie.decreases-loop
-decreases-loop text₀ at count x room₀ k₀ rest₀ text k rest = k
+abbrev decreases_loop : tie.decreases_loop
+decreases_loop text₀ at count x room₀ k₀ rest₀ text k rest = k
 
-pub put-hex-spec : {M : Type 1} → statement M
-put-hex-spec =
+pub put_hex_spec : {M : Type 1} → statement M
+put_hex_spec =
     tie.close
     (tie.spec
-    invariant-loop
-    decreases-loop
-    (λ c. put-stays _ _ _ _ (omega arith))
-    (λ c. put-stays _ _ _ _ (omega arith))
-    (λ c. (omega arith, refl, put-fits _ _ _ _ (omega arith)))
+    invariant_loop
+    decreases_loop
+    (λ c. put_stays _ _ _ _ (omega arith))
+    (λ c. put_stays _ _ _ _ (omega arith))
+    (λ c. (omega arith, refl, put_fits _ _ _ _ (omega arith)))
     (λ c. search rules)
     (λ c. search rules)
     (λ c κs. search rules)
     (λ c. search rules)
     (λ c. search rules)
     (λ c. search rules)
-    (λ c. search (put-digit, rules))
+    (λ c. search (put_digit, rules))
     (λ c. search rules)
-    (λ c. search (put-none, rules)))
+    (λ c. search (put_none, rules)))

@@ -6,25 +6,25 @@ use borrow.Author.Rules.{rules}
 use lib.Dec.{eqb}
 use lib.ListN.{length}
 use Rattle.import.specs.Sheets.{Stands, left}
-use Rattle.import.proofs.Counting.{front-size}
-use Rattle.import.proofs.Turning.{stands-first, stands_same, going_on}
+use Rattle.import.proofs.Counting.{front_size}
+use Rattle.import.proofs.Turning.{stands_first, stands_same, going_on}
 use Rattle.import.proofs.run.Statement.{statement}
 use Rattle.import.proofs.run.Tie as tie
 
-abbrev invariant-loop : tie.invariant-loop
-invariant-loop window₀ slots₀ theirs₀ field₀ out₀ held s₀ go₀ passed₀ window slots theirs field out s go passed =
+abbrev invariant_loop : tie.invariant_loop
+invariant_loop window₀ slots₀ theirs₀ field₀ out₀ held s₀ go₀ passed₀ window slots theirs field out s go passed =
     (length window ≡ length window₀) × (length slots ≡ length slots₀) × (length theirs ≡ length theirs₀) × (length field ≡ length field₀) × (length out ≡ length out₀)
     × Stands s (length window₀) (length out₀) × (go ≡ eqb s.ending 0) × (passed ≡ s.taken.sheet.passed)
 
-abbrev decreases-loop : tie.decreases-loop
-decreases-loop window₀ slots₀ theirs₀ field₀ out₀ held s₀ go₀ passed₀ window slots theirs field out s go passed = left s
+abbrev decreases_loop : tie.decreases_loop
+decreases_loop window₀ slots₀ theirs₀ field₀ out₀ held s₀ go₀ passed₀ window slots theirs field out s go passed = left s
 
 pub run_spec : {M : Type 1} → statement M
 run_spec =
     tie.close
     (tie.spec
-    invariant-loop
-    decreases-loop
+    invariant_loop
+    decreases_loop
     (λ c κs. search rules)
     (λ c. search rules)
     (λ c. search rules)
@@ -40,10 +40,10 @@ run_spec =
       refl,
       refl,
       refl,
-      stands-first _ _ _ _ _ _ (omega (arith, f.ensures.within, f.ensures.long)) (front-size f.new.0 f.result.held (omega (arith, f.ensures.within, f.ensures.long))) b.ensures
+      stands_first _ _ _ _ _ _ (omega (arith, f.ensures.within, f.ensures.long)) (front_size f.new.0 f.result.held (omega (arith, f.ensures.within, f.ensures.long))) b.ensures
           (omega (arith, b.auto.1.0)),
       refl,
-      c.passed-by.ensures,
+      c.passed_by.ensures,
     ))
     (λ c κs.
     let l = c.before.before.before.before.before.before.before.loop in
@@ -64,7 +64,7 @@ run_spec =
       omega (arith, t.auto.1.1.1.1.0, l.invariant.4),
       stands_same t.ensures.0 l.invariant.0 l.invariant.4,
       refl,
-      c.passed-by2.ensures,
+      c.passed_by2.ensures,
     ))
     (λ c. search rules)
     (λ c. search rules)

@@ -14,12 +14,12 @@ pub record Laying (kept : List ℕ) (count : ℕ) (slots₀ slots : List ℕ) (k
   pub same : length slots ≡ length slots₀
   pub whole : sets slots k (drop k (take count kept)) ≡ sets slots₀ 0 (take count kept)
 
-pub none-laid : (kept slots : List ℕ) (count : ℕ) → Laying kept count slots slots 0
-none-laid kept slots count = record { few = omega arith; same = refl; whole = refl }
+pub none_laid : (kept slots : List ℕ) (count : ℕ) → Laying kept count slots slots 0
+none_laid kept slots count = record { few = omega arith; same = refl; whole = refl }
 
-pub one-laid : (kept slots₀ slots : List ℕ) (count k : ℕ) → Laying kept count slots₀ slots k → k < count → count ≤ length kept
+pub one_laid : (kept slots₀ slots : List ℕ) (count k : ℕ) → Laying kept count slots₀ slots k → k < count → count ≤ length kept
     → Laying kept count slots₀ (set slots k (get_or kept k 0)) (k + 1)
-one-laid kept slots₀ slots count k l h fits =
+one_laid kept slots₀ slots count k l h fits =
     let size : length (take count kept) ≡ count = length-take-le count kept fits in
     let next : drop k (take count kept) ≡ get_or kept k 0 ∷ drop (k + 1) (take count kept) = left (take count kept) k (omega arith) ∙ rw (get_or-take count kept k 0 h) refl in
     let laid : sets (set slots k (get_or kept k 0)) (k + 1) (drop (k + 1) (take count kept)) ≡ sets slots k (drop k (take count kept)) = rw (next, add-one k) refl in

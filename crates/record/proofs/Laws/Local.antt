@@ -11,9 +11,9 @@ abbrev pub final : (other : ℕ) → List ℕ → ℕ
 final c [] = c
 final c (b ∷ s) = final b s
 
-pub final-append : (c : ℕ) (s t : List ℕ) → final c (s ++ t) ≡ final (final c s) t
-final-append c [] t = refl
-final-append c (b ∷ s) t = final-append b s t
+pub final_append : (c : ℕ) (s t : List ℕ) → final c (s ++ t) ≡ final (final c s) t
+final_append c [] t = refl
+final_append c (b ∷ s) t = final_append b s t
 
 -- A rule leads from at and s to another place, t: over some bytes, and over the same whatever follows.
 pub record Passed (Rule : (s t : List ℕ) → Type 0) (at : ℕ) (s : List ℕ) (to : ℕ) (t : List ℕ) : Type 0 where
@@ -25,15 +25,15 @@ pub record Passed (Rule : (s t : List ℕ) → Type 0) (at : ℕ) (s : List ℕ)
 -- and the last of them is no LF
 pub record Clean (Rule : (s t : List ℕ) → Type 0) (at : ℕ) (s : List ℕ) (to : ℕ) (t : List ℕ) : Type 0 where
   pub passed : Passed Rule at s to t
-  pub no-lf : (c : ℕ) → (c ≡ lf → ⊥) → final c passed.bytes ≡ lf → ⊥
+  pub no_lf : (c : ℕ) → (c ≡ lf → ⊥) → final c passed.bytes ≡ lf → ⊥
 
-nonEscaped-local : {at to : ℕ} {s t : List ℕ} → NonEscaped at s to t → Clean (λ s t. NonEscaped at s to t) at s to t
-nonEscaped-local NonEscaped.none = record {
+non_escaped_local : {at to : ℕ} {s t : List ℕ} → NonEscaped at s to t → Clean (λ s t. NonEscaped at s to t) at s to t
+non_escaped_local NonEscaped.none = record {
   passed = record { bytes = []; whole = refl; place = omega arith; again = λ others. NonEscaped.none };
-  no-lf = λ c h. h;
+  no_lf = λ c h. h;
 }
-nonEscaped-local {at} {to} (NonEscaped.textdata {b = b} x r) =
-    let l = nonEscaped-local r in
+non_escaped_local {at} {to} (NonEscaped.textdata {b = b} x r) =
+    let l = non_escaped_local r in
     let w = l.passed in
     let place : to ≡ at + 1 + length w.bytes = w.place in
     record {
@@ -43,13 +43,13 @@ nonEscaped-local {at} {to} (NonEscaped.textdata {b = b} x r) =
         place = omega arith;
         again = λ others. NonEscaped.textdata x (w.again others);
       };
-      no-lf = λ c h. l.no-lf b x.no-lf;
+      no_lf = λ c h. l.no_lf b x.no_lf;
     }
 
-body-local : {at to : ℕ} {s t : List ℕ} → Body at s to t → Passed (λ s t. Body at s to t) at s to t
-body-local Body.none = record { bytes = []; whole = refl; place = omega arith; again = λ others. Body.none }
-body-local {at} {to} (Body.byte {b = b} x r) =
-    let w = body-local r in
+body_local : {at to : ℕ} {s t : List ℕ} → Body at s to t → Passed (λ s t. Body at s to t) at s to t
+body_local Body.none = record { bytes = []; whole = refl; place = omega arith; again = λ others. Body.none }
+body_local {at} {to} (Body.byte {b = b} x r) =
+    let w = body_local r in
     let place : to ≡ at + 1 + length w.bytes = w.place in
     record {
       bytes = b ∷ w.bytes;
@@ -57,19 +57,19 @@ body-local {at} {to} (Body.byte {b = b} x r) =
       place = omega arith;
       again = λ others. Body.byte x (w.again others);
     }
-body-local {at} {to} (Body.twoQuotes r) =
-    let w = body-local r in
+body_local {at} {to} (Body.two_quotes r) =
+    let w = body_local r in
     let place : to ≡ at + 2 + length w.bytes = w.place in
     record {
       bytes = quote ∷ quote ∷ w.bytes;
       whole = ap (λ (u : List ℕ). quote ∷ quote ∷ u) w.whole;
       place = omega arith;
-      again = λ others. Body.twoQuotes (w.again others);
+      again = λ others. Body.two_quotes (w.again others);
     }
 
-pub field-local : {at a e to : ℕ} {s t : List ℕ} → Field at s a e to t → Clean (λ s t. Field at s a e to t) at s to t
-field-local {at} (Field.escaped {e = e} {t = t} r) =
-    let w = body-local r in
+pub field_local : {at a e to : ℕ} {s t : List ℕ} → Field at s a e to t → Clean (λ s t. Field at s a e to t) at s to t
+field_local {at} (Field.escaped {e = e} {t = t} r) =
+    let w = body_local r in
     let place : e ≡ at + 1 + length w.bytes = w.place in
     let two : length (w.bytes ++ (quote ∷ [])) ≡ length w.bytes + 1 = length-append w.bytes (quote ∷ []) in
     record {
@@ -80,27 +80,27 @@ field-local {at} (Field.escaped {e = e} {t = t} r) =
         again = λ others. Field.escaped
             (subst (λ (u : List ℕ). Body (at + 1) u e (quote ∷ others)) (sym (append_assoc w.bytes (quote ∷ []) others)) (w.again (quote ∷ others)));
       };
-      no-lf = λ c h e. let x : quote ≡ lf = sym (final-append quote w.bytes (quote ∷ [])) ∙ e in omega arith;
+      no_lf = λ c h e. let x : quote ≡ lf = sym (final_append quote w.bytes (quote ∷ [])) ∙ e in omega arith;
     }
-field-local (Field.nonEscaped r) =
-    let l = nonEscaped-local r in
+field_local (Field.non_escaped r) =
+    let l = non_escaped_local r in
     let w = l.passed in
     record {
-      passed = record { bytes = w.bytes; whole = w.whole; place = w.place; again = λ others. Field.nonEscaped (w.again others) };
-      no-lf = l.no-lf;
+      passed = record { bytes = w.bytes; whole = w.whole; place = w.place; again = λ others. Field.non_escaped (w.again others) };
+      no_lf = l.no_lf;
     }
 
-pub fields-local : {at to : ℕ} {s t : List ℕ} {fields : List (ℕ × ℕ)} → Fields at s fields to t → Clean (λ s t. Fields at s fields to t) at s to t
-fields-local (Fields.last r) =
-    let l = field-local r in
+pub fields_local : {at to : ℕ} {s t : List ℕ} {fields : List (ℕ × ℕ)} → Fields at s fields to t → Clean (λ s t. Fields at s fields to t) at s to t
+fields_local (Fields.last r) =
+    let l = field_local r in
     let w = l.passed in
     record {
       passed = record { bytes = w.bytes; whole = w.whole; place = w.place; again = λ others. Fields.last (w.again others) };
-      no-lf = l.no-lf;
+      no_lf = l.no_lf;
     }
-fields-local {at} {to} {t = t} {fields = fields} (Fields.andMore {a = a} {e = e} {mid = mid} {fields = fs} r rs) =
-    let w = (field-local r).passed in
-    let l = fields-local rs in
+fields_local {at} {to} {t = t} {fields = fields} (Fields.and_more {a = a} {e = e} {mid = mid} {fields = fs} r rs) =
+    let w = (field_local r).passed in
+    let l = fields_local rs in
     let v = l.passed in
     let first : mid ≡ at + length w.bytes = w.place in
     let place : to ≡ mid + 1 + length v.bytes = v.place in
@@ -111,7 +111,7 @@ fields-local {at} {to} {t = t} {fields = fields} (Fields.andMore {a = a} {e = e}
         whole = w.whole ∙ (ap (λ (u : List ℕ). w.bytes ++ (comma ∷ u)) v.whole ∙ sym (append_assoc w.bytes (comma ∷ v.bytes) t));
         place = omega arith;
         again = λ others. subst (λ (u : List ℕ). Fields at u ((a, e) ∷ fs) to others) (sym (append_assoc w.bytes (comma ∷ v.bytes) others))
-            (Fields.andMore (w.again (comma ∷ (v.bytes ++ others))) (v.again others));
+            (Fields.and_more (w.again (comma ∷ (v.bytes ++ others))) (v.again others));
       };
-      no-lf = λ c h e. l.no-lf comma (λ e. omega arith) (sym (final-append c w.bytes (comma ∷ v.bytes)) ∙ e);
+      no_lf = λ c h e. l.no_lf comma (λ e. omega arith) (sym (final_append c w.bytes (comma ∷ v.bytes)) ∙ e);
     }

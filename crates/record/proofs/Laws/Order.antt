@@ -34,9 +34,9 @@ abbrev pub None : List (Bool × ℕ) → Type 0
 None [] = Unit {0}
 None (t ∷ ts) = (t.0 ≡ false) × None ts
 
-pub none-holds : (ts : List (Bool × ℕ)) (m : ℕ) → m ≡ first_of (λ m. m) ts 0 → m ≡ 0 → Above ts → None ts
-none-holds [] m e zero above = tt
-none-holds (t ∷ ts) m e zero above = go t.0 refl (λ e. none-holds ts m e zero above.1)
+pub none_holds : (ts : List (Bool × ℕ)) (m : ℕ) → m ≡ first_of (λ m. m) ts 0 → m ≡ 0 → Above ts → None ts
+none_holds [] m e zero above = tt
+none_holds (t ∷ ts) m e zero above = go t.0 refl (λ e. none_holds ts m e zero above.1)
   where
     go : (c : Bool) → t.0 ≡ c → (m ≡ first_of (λ m. m) ts 0 → None ts) → (t.0 ≡ false) × None ts
     go true b later = absurd (above.0 (sym (e ∙ rw b refl) ∙ zero))

@@ -16,7 +16,7 @@ use Rattle.table.specs.Tray.{nowhere}
 use Rattle.table.specs.Table.{holding}
 use Rattle.table.specs.Does.{Outcome2, refused2}
 use Rattle.table.proofs.Laws.Refusals
-use Rattle.table.proofs.Laws.Valid.{vector-facts}
+use Rattle.table.proofs.Laws.Valid.{vector_facts}
 use Rattle.vector.specs.declared.Vector.{Vector}
 use Rattle.vector.specs.Seen.{tray}
 use Rattle.pairs.specs.declared.vectors.Both.{Both}
@@ -27,14 +27,14 @@ use Rattle.record.specs.Scan.{scanned}
 use Rattle.record.specs.Places.{firsts, lasts}
 use Rattle.record.specs.Steps.{number_of, place_of, tally, Judged}
 use Rattle.record.proofs.Laws.Inside.{place_inside}
-use Rattle.record.proofs.Laws.Order.{Above, stopped, passed, None, none-holds}
-use Rattle.record.proofs.Laws.Summing.{kept_whole, reads-to, grown}
-use Rattle.record.specs.Recorded.{longest, told, judges, first_of, earlyTests, early, lateTests, places, records, Records}
+use Rattle.record.proofs.Laws.Order.{Above, stopped, passed, None, none_holds}
+use Rattle.record.proofs.Laws.Summing.{kept_whole, reads_to, grown}
+use Rattle.record.specs.Recorded.{longest, told, judges, first_of, early_tests, early, late_tests, places, records, Records}
 
 -- `judge`
-pub judged-long : (text : List ℕ) (r : Told) → longest < length text → r ≡ told 11 0 → r ≡ judges text
+pub judged_long : (text : List ℕ) (r : Told) → longest < length text → r ≡ told 11 0 → r ≡ judges text
 unfolding judges
-judged-long text r h e = rw (lt-ltb _ _ h) e
+judged_long text r h e = rw (lt-ltb _ _ h) e
 
 pub judged : (text : List ℕ) (v : Verdict) (r : Told) → length text ≤ longest → v ≡ tally 0 (scanned text) → r ≡ told v.number v.at → r ≡ judges text
 unfolding judges
@@ -43,8 +43,8 @@ judged text v r h is e = rw (le-ltb _ _ h) (e ∙ ap (λ (v : Verdict). told v.n
 -- the tests before the text is looked at
 pub ruleset tests = Refusals.refusals
 
-pub not-held : (n : ℕ) → holding n ≡ false → n ≡ 0
-not-held n e = eqb-true n 0 (go (eqb n 0) e)
+pub not_held : (n : ℕ) → holding n ≡ false → n ≡ 0
+not_held n e = eqb-true n 0 (go (eqb n 0) e)
   where
     go : (b : Bool) → not b ≡ false → b ≡ true
     go true e = refl
@@ -64,64 +64,64 @@ set_after l s j fits h =
     ∙ get_or-drop (0 + length l) s (j - length l) 0
     ∙ ap (λ k. get_or s k 0) place
 
-pub set-laid : (l s : List ℕ) (n : ℕ) → n ≡ 0 → length l ≤ length s → sets s 0 l ≡ relaid itself itself n l s
-set-laid l s n none fits =
+pub set_laid : (l s : List ℕ) (n : ℕ) → n ≡ 0 → length l ≤ length s → sets s 0 l ≡ relaid itself itself n l s
+set_laid l s n none fits =
     laid itself itself itself n l s (sets s 0 l) (placing vector (length s) 0 (omega arith)) (length-sets s 0 l)
     (λ j h low. set_there l s j fits low)
     (λ j h high was. absurd (omega arith))
     (λ j h high was. set_after l s j fits high)
 
-pub length-firsts : (fields : List (ℕ × ℕ)) → length (firsts fields) ≡ length fields
+pub length_firsts : (fields : List (ℕ × ℕ)) → length (firsts fields) ≡ length fields
 unfolding firsts
-length-firsts [] = refl
-length-firsts (f ∷ fields) = ap suc (length-firsts fields)
+length_firsts [] = refl
+length_firsts (f ∷ fields) = ap suc (length_firsts fields)
 
-pub length-lasts : (fields : List (ℕ × ℕ)) → length (lasts fields) ≡ length fields
+pub length_lasts : (fields : List (ℕ × ℕ)) → length (lasts fields) ≡ length fields
 unfolding lasts
-length-lasts [] = refl
-length-lasts (f ∷ fields) = ap suc (length-lasts fields)
+length_lasts [] = refl
+length_lasts (f ∷ fields) = ap suc (length_lasts fields)
 
-pub place-fits : (text : List ℕ) (v : Verdict) → length text ≤ longest → v ≡ tally 0 (scanned text) → v.at < 4294967296
-place-fits text v h is = omega (arith, place_inside text, ap (λ (v : Verdict). v.at) is)
+pub place_fits : (text : List ℕ) (v : Verdict) → length text ≤ longest → v ≡ tally 0 (scanned text) → v.at < 4294967296
+place_fits text v h is = omega (arith, place_inside text, ap (λ (v : Verdict). v.at) is)
 
 -- what was kept of a record with no more than sixteen fields is all of it
-all-kept : (l zeros kept : List ℕ) (count : ℕ) → kept ≡ sets zeros 0 l → count ≡ length l → count ≤ length zeros → take count kept ≡ l
-all-kept l zeros kept count is counted fits =
+all_kept : (l zeros kept : List ℕ) (count : ℕ) → kept ≡ sets zeros 0 l → count ≡ length l → count ≤ length zeros → take count kept ≡ l
+all_kept l zeros kept count is counted fits =
     ap (take count) (is ∙ sets-eq l zeros 0 (omega arith)) ∙ take_at l (drop (0 + length l) zeros) count (sym counted)
 
 -- the sixteen slots that the places are kept in
 abbrev sixteen : List ℕ
 sixteen = replicate 16 0
 
-pub still-sixteen : (l kept : List ℕ) → kept ≡ sets sixteen 0 l → 16 ≡ length kept
-still-sixteen l kept e = sym (ap length e ∙ length-sets sixteen 0 l)
+pub still_sixteen : (l kept : List ℕ) → kept ≡ sets sixteen 0 l → 16 ≡ length kept
+still_sixteen l kept e = sym (ap length e ∙ length-sets sixteen 0 l)
 
-pub judged-kept : (text kept kept-ends : List ℕ) (v : Verdict) → length text ≤ longest → v ≡ tally 0 (scanned text)
-    → kept ≡ sets sixteen 0 (firsts (scanned text).fields) → kept-ends ≡ sets sixteen 0 (lasts (scanned text).fields) → Judged text v.count kept kept-ends
-judged-kept text kept kept-ends v short is starts-are ends-are =
+pub judged_kept : (text kept kept_ends : List ℕ) (v : Verdict) → length text ≤ longest → v ≡ tally 0 (scanned text)
+    → kept ≡ sets sixteen 0 (firsts (scanned text).fields) → kept_ends ≡ sets sixteen 0 (lasts (scanned text).fields) → Judged text v.count kept kept_ends
+judged_kept text kept kept_ends v short is starts_are ends_are =
     let counted : v.count ≡ length (scanned text).fields = ap (λ (v : Verdict). v.count) is ∙ omega arith in
     record {
       short = short;
       counted = counted;
-      long = ap length starts-are ∙ length-sets sixteen 0 (firsts (scanned text).fields);
-      long-too = ap length ends-are ∙ length-sets sixteen 0 (lasts (scanned text).fields);
-      starts-kept = λ few. all-kept (firsts (scanned text).fields) sixteen kept v.count starts-are (counted ∙ sym (length-firsts (scanned text).fields)) few;
-      ends-kept = λ few. all-kept (lasts (scanned text).fields) sixteen kept-ends v.count ends-are (counted ∙ sym (length-lasts (scanned text).fields)) few;
+      long = ap length starts_are ∙ length-sets sixteen 0 (firsts (scanned text).fields);
+      long_too = ap length ends_are ∙ length-sets sixteen 0 (lasts (scanned text).fields);
+      starts_kept = λ few. all_kept (firsts (scanned text).fields) sixteen kept v.count starts_are (counted ∙ sym (length_firsts (scanned text).fields)) few;
+      ends_kept = λ few. all_kept (lasts (scanned text).fields) sixteen kept_ends v.count ends_are (counted ∙ sym (length_lasts (scanned text).fields)) few;
     }
 
 -- laid into the slots
-module _ (text : List ℕ) (count : ℕ) (kept kept-ends : List ℕ) (j : Judged text count kept kept-ends) (few : count ≤ 16) where
-  pub kept-fits : count ≤ length kept
-  kept-fits = omega (arith, j.long)
+module _ (text : List ℕ) (count : ℕ) (kept kept_ends : List ℕ) (j : Judged text count kept kept_ends) (few : count ≤ 16) where
+  pub kept_fits : count ≤ length kept
+  kept_fits = omega (arith, j.long)
 
-  pub kept-fits-too : count ≤ length kept-ends
-  kept-fits-too = omega (arith, j.long-too)
+  pub kept_fits_too : count ≤ length kept_ends
+  kept_fits_too = omega (arith, j.long_too)
 
-  pub starts-laid : (s s' : List ℕ) → s' ≡ sets s 0 (take count kept) → s' ≡ sets s 0 (firsts (scanned text).fields)
-  starts-laid s s' e = e ∙ ap (sets s 0) (j.starts-kept few)
+  pub starts_laid : (s s' : List ℕ) → s' ≡ sets s 0 (take count kept) → s' ≡ sets s 0 (firsts (scanned text).fields)
+  starts_laid s s' e = e ∙ ap (sets s 0) (j.starts_kept few)
 
-  pub ends-laid : (s s' : List ℕ) → s' ≡ sets s 0 (take count kept-ends) → s' ≡ sets s 0 (lasts (scanned text).fields)
-  ends-laid s s' e = e ∙ ap (sets s 0) (j.ends-kept few)
+  pub ends_laid : (s s' : List ℕ) → s' ≡ sets s 0 (take count kept_ends) → s' ≡ sets s 0 (lasts (scanned text).fields)
+  ends_laid s s' e = e ∙ ap (sets s 0) (j.ends_kept few)
 
 -- `read`: what is refused, and what is done
 module _ (text : List ℕ) (first second : Vector) (s z : List ℕ) (m : ℕ) (is : m ≡ early (length s) first.len (length z) second.len (length text)) where
@@ -135,55 +135,55 @@ module _ (text : List ℕ) (first second : Vector) (s z : List ℕ) (m : ℕ) (i
   abbrev Whole : Both → Type 0
   Whole a = first.total.sum < 2 ^ 64 → second.total.sum < 2 ^ 64 → Records text first s second z a s z
 
-  pub early-refused : (a : Both) → (m ≡ 0 → ⊥) → a ≡ says m 0 first second → Whole a
+  pub early_refused : (a : Both) → (m ≡ 0 → ⊥) → a ≡ says m 0 first second → Whole a
   unfolding records early
-  early-refused a no_zero e =
+  early_refused a no_zero e =
       kept_whole text first second s z a m e
-      (stopped Refuses (earlyTests (length s) first.len (length z) second.len (length text)) (lateTests text (length s) (length z)) Done m is no_zero)
+      (stopped Refuses (early_tests (length s) first.len (length z) second.len (length text)) (late_tests text (length s) (length z)) Done m is no_zero)
 
   module _ (zero : m ≡ 0) where
-    above : Above (earlyTests (length s) first.len (length z) second.len (length text))
+    above : Above (early_tests (length s) first.len (length z) second.len (length text))
     above = (λ e. absurd (omega arith), (λ e. absurd (omega arith), (λ e. absurd (omega arith), (λ e. absurd (omega arith), (λ e. absurd (omega arith), tt)))))
 
-    none : None (earlyTests (length s) first.len (length z) second.len (length text))
+    none : None (early_tests (length s) first.len (length z) second.len (length text))
     unfolding early
-    none = none-holds (earlyTests (length s) first.len (length z) second.len (length text)) m is zero above
+    none = none_holds (early_tests (length s) first.len (length z) second.len (length text)) m is zero above
 
     pub short : length text ≤ longest
     short = ltb-false longest (length text) none.1.1.1.1.0
 
     -- a valid vector has few slots
-    pub few-slots : length s ≤ most
-    few-slots = (vector-facts (length s) first.len none.0).small
+    pub few_slots_law : length s ≤ most
+    few_slots_law = (vector_facts (length s) first.len none.0).small
 
-    pub few-slots-too : length z ≤ most
-    few-slots-too = (vector-facts (length z) second.len none.1.0).small
+    pub few_slots_too : length z ≤ most
+    few_slots_too = (vector_facts (length z) second.len none.1.0).small
 
-    past : (d : Outcome2) → first_of Refuses (earlyTests (length s) first.len (length z) second.len (length text) ++ lateTests text (length s) (length z)) d
-        ≡ first_of Refuses (lateTests text (length s) (length z)) d
+    past : (d : Outcome2) → first_of Refuses (early_tests (length s) first.len (length z) second.len (length text) ++ late_tests text (length s) (length z)) d
+        ≡ first_of Refuses (late_tests text (length s) (length z)) d
     unfolding early
     past d =
-        passed Refuses (earlyTests (length s) first.len (length z) second.len (length text)) (lateTests text (length s) (length z)) d m is zero above
+        passed Refuses (early_tests (length s) first.len (length z) second.len (length text)) (late_tests text (length s) (length z)) d m is zero above
 
-    pub zero-early : 0 ≡ early (length s) first.len (length z) second.len (length text)
-    zero-early = sym zero ∙ is
+    pub zero_early : 0 ≡ early (length s) first.len (length z) second.len (length text)
+    zero_early = sym zero ∙ is
 
-    module _ (v : Verdict) (is-v : v ≡ tally 0 (scanned text)) where
-      pub value-fits : v.at < 4294967296
-      value-fits = place-fits text v short is-v
+    module _ (v : Verdict) (is_v : v ≡ tally 0 (scanned text)) where
+      pub value_fits : v.at < 4294967296
+      value_fits = place_fits text v short is_v
 
       number_is : v.number ≡ number_of (scanned text).ending
-      number_is = ap (λ (v : Verdict). v.number) is-v
+      number_is = ap (λ (v : Verdict). v.number) is_v
 
-      count-is : v.count ≡ length (scanned text).fields
-      count-is = ap (λ (v : Verdict). v.count) is-v ∙ omega arith
+      count_is : v.count ≡ length (scanned text).fields
+      count_is = ap (λ (v : Verdict). v.count) is_v ∙ omega arith
 
-      pub reads-well : v.number ≡ 0 → number_of (scanned text).ending ≡ 0
-      reads-well e = sym number_is ∙ e
+      pub reads_well : v.number ≡ 0 → number_of (scanned text).ending ≡ 0
+      reads_well e = sym number_is ∙ e
 
-      pub late-refused : (a : Both) → (v.number ≡ 0 → ⊥) → a ≡ says v.number 0 first second → Whole a
+      pub late_refused : (a : Both) → (v.number ≡ 0 → ⊥) → a ≡ says v.number 0 first second → Whole a
       unfolding records
-      late-refused a no_zero e =
+      late_refused a no_zero e =
           let holds : eqb (number_of (scanned text).ending) 0 ≡ false = ne_eqb _ 0 (λ zero'. no_zero (number_is ∙ zero')) in
           kept_whole text first second s z a v.number e (past Done ∙ rw (holds, number_is) refl)
 
@@ -191,37 +191,37 @@ module _ (text : List ℕ) (first second : Vector) (s z : List ℕ) (m : ℕ) (i
         clear : eqb (number_of (scanned text).ending) 0 ≡ true
         clear = eq-eqb _ 0 (sym number_is ∙ read)
 
-        pub few-starts : (a : Both) → length s < v.count → a ≡ says 6 0 first second → Whole a
+        pub few_starts : (a : Both) → length s < v.count → a ≡ says 6 0 first second → Whole a
         unfolding records
-        few-starts a short e =
-            let holds : ltb (length s) (length (scanned text).fields) ≡ true = lt-ltb (length s) (length (scanned text).fields) (omega (arith, count-is)) in
+        few_starts a short e =
+            let holds : ltb (length s) (length (scanned text).fields) ≡ true = lt-ltb (length s) (length (scanned text).fields) (omega (arith, count_is)) in
             kept_whole text first second s z a 6 e (past Done ∙ rw (clear, holds) refl)
 
         module _ (room : v.count ≤ length s) where
           enough : ltb (length s) (length (scanned text).fields) ≡ false
-          enough = le-ltb (length s) (length (scanned text).fields) (omega (arith, count-is))
+          enough = le-ltb (length s) (length (scanned text).fields) (omega (arith, count_is))
 
-          pub few-ends : (a : Both) → length z < v.count → a ≡ says 6 0 first second → Whole a
+          pub few_ends : (a : Both) → length z < v.count → a ≡ says 6 0 first second → Whole a
           unfolding records
-          few-ends a short e =
-              let holds : ltb (length z) (length (scanned text).fields) ≡ true = lt-ltb (length z) (length (scanned text).fields) (omega (arith, count-is)) in
+          few_ends a short e =
+              let holds : ltb (length z) (length (scanned text).fields) ≡ true = lt-ltb (length z) (length (scanned text).fields) (omega (arith, count_is)) in
               kept_whole text first second s z a 6 e (past Done ∙ rw (clear, enough, holds) refl)
 
           pub placed : (a : Both) (s' z' : List ℕ) → v.count ≤ length z → s' ≡ sets s 0 (firsts (scanned text).fields)
-              → z' ≡ sets z 0 (lasts (scanned text).fields) → a ≡ reads-to first second s' z' v.at v.count → Records text first s second z a s' z'
+              → z' ≡ sets z 0 (lasts (scanned text).fields) → a ≡ reads_to first second s' z' v.at v.count → Records text first s second z a s' z'
           unfolding records
-          placed a s' z' room-too starts-are ends-are e =
-              let enough-too : ltb (length z) (length (scanned text).fields) ≡ false = le-ltb (length z) (length (scanned text).fields) (omega (arith, count-is)) in
-              let many = length-firsts (scanned text).fields in
-              let many-too = length-lasts (scanned text).fields in
-              let none-held : first.len ≡ 0 = not-held first.len none.1.1.0 in
-              let none-held-too : second.len ≡ 0 = not-held second.len none.1.1.1.0 in
-              let laid-first : s' ≡ relaid itself itself first.len (firsts (scanned text).fields) s =
-              starts-are ∙ set-laid (firsts (scanned text).fields) s first.len none-held (omega (arith, count-is)) in
-              let laid-second : z' ≡ relaid itself itself second.len (lasts (scanned text).fields) z =
-              ends-are ∙ set-laid (lasts (scanned text).fields) z second.len none-held-too (omega (arith, count-is)) in
-              let place_is : v.at ≡ place_of (scanned text).ending = ap (λ (v : Verdict). v.at) is-v in
-              let answer : a ≡ reads-to first second s' z' (place_of (scanned text).ending) (length (scanned text).fields) = e ∙ rw (place_is, count-is) refl in
+          placed a s' z' room_too starts_are ends_are e =
+              let enough_too : ltb (length z) (length (scanned text).fields) ≡ false = le-ltb (length z) (length (scanned text).fields) (omega (arith, count_is)) in
+              let many = length_firsts (scanned text).fields in
+              let many_too = length_lasts (scanned text).fields in
+              let none_held : first.len ≡ 0 = not_held first.len none.1.1.0 in
+              let none_held_too : second.len ≡ 0 = not_held second.len none.1.1.1.0 in
+              let laid_first : s' ≡ relaid itself itself first.len (firsts (scanned text).fields) s =
+              starts_are ∙ set_laid (firsts (scanned text).fields) s first.len none_held (omega (arith, count_is)) in
+              let laid_second : z' ≡ relaid itself itself second.len (lasts (scanned text).fields) z =
+              ends_are ∙ set_laid (lasts (scanned text).fields) z second.len none_held_too (omega (arith, count_is)) in
+              let place_is : v.at ≡ place_of (scanned text).ending = ap (λ (v : Verdict). v.at) is_v in
+              let answer : a ≡ reads_to first second s' z' (place_of (scanned text).ending) (length (scanned text).fields) = e ∙ rw (place_is, count_is) refl in
               grown text first second s z s' z' a (place_of (scanned text).ending) (length (scanned text).fields) answer
-              (sym (past Done ∙ rw (clear, enough, enough-too, many, many-too, ← laid-first, ← laid-second) refl))
-              none-held none-held-too
+              (sym (past Done ∙ rw (clear, enough, enough_too, many, many_too, ← laid_first, ← laid_second) refl))
+              none_held none_held_too

@@ -5,8 +5,8 @@ use Prim.Native.Nat.{ℕ, ◌^◌, ◌<◌}
 use native.Mathlib.Omega.{arith}
 use Rattle.slots.specs.Layout.{vector, itself, entries}
 use Rattle.slots.specs.Total.{total, changed}
-use Rattle.slots.proofs.Placing.{length-entries}
-use Rattle.slots.proofs.Totals.{total-empty, same-change, no_change}
+use Rattle.slots.proofs.Placing.{length_entries}
+use Rattle.slots.proofs.Totals.{total_empty, same_change, no_change}
 use Rattle.table.specs.Tray.{Tray, list, nowhere}
 use Rattle.table.specs.Does.{Outcome2, refused2}
 use Rattle.runs.specs.Width.{summing}
@@ -14,32 +14,32 @@ use Rattle.vector.specs.declared.Vector.{Vector}
 use Rattle.vector.specs.Seen.{tray, state}
 use Rattle.pairs.specs.declared.vectors.Both.{Both}
 use Rattle.pairs.specs.Vectors.{seen2, says}
-use Rattle.record.specs.Recorded.{records, totalStarts, totalEnds, Records}
+use Rattle.record.specs.Recorded.{records, total_starts, total_ends, Records}
 
 -- what stands in an empty vector adds up to nothing
-no-sum : (t : Tray) → t.len ≡ 0 → total (list vector t) ≡ 0
-no-sum t none = total-empty (list vector t) (length-entries itself t.len t.slots ∙ none)
+no_sum : (t : Tray) → t.len ≡ 0 → total (list vector t) ≡ 0
+no_sum t none = total_empty (list vector t) (length_entries itself t.len t.slots ∙ none)
 
 module _ (text : List ℕ) (t t2 : Tray) (o : Outcome2) (n : ℕ) (e : o ≡ records text t t2) where
-  starts-same : o.first ≡ t → n < 2 ^ 64 → n ≡ totalStarts text t t2 n
-  unfolding totalStarts
-  starts-same same small =
+  starts_same : o.first ≡ t → n < 2 ^ 64 → n ≡ total_starts text t t2 n
+  unfolding total_starts
+  starts_same same small =
       let now : (records text t t2).first ≡ t = ap (λ (o : Outcome2). o.first) (sym e) ∙ same in
       rw now (no_change n _ small)
 
-  ends_same : o.second ≡ t2 → n < 2 ^ 64 → n ≡ totalEnds text t t2 n
-  unfolding totalEnds
+  ends_same : o.second ≡ t2 → n < 2 ^ 64 → n ≡ total_ends text t t2 n
+  unfolding total_ends
   ends_same same small =
       let now : (records text t t2).second ≡ t2 = ap (λ (o : Outcome2). o.second) (sym e) ∙ same in
       rw now (no_change n _ small)
 
-  starts-put : t.len ≡ 0 → changed n (total (list vector o.first)) 0 ≡ totalStarts text t t2 n
-  unfolding totalStarts
-  starts-put none = rw (← e) (same-change n _ _ _ _ (omega (arith, no-sum t none)))
+  starts_put : t.len ≡ 0 → changed n (total (list vector o.first)) 0 ≡ total_starts text t t2 n
+  unfolding total_starts
+  starts_put none = rw (← e) (same_change n _ _ _ _ (omega (arith, no_sum t none)))
 
-  ends-put : t2.len ≡ 0 → changed n (total (list vector o.second)) 0 ≡ totalEnds text t t2 n
-  unfolding totalEnds
-  ends-put none = rw (← e) (same-change n _ _ _ _ (omega (arith, no-sum t2 none)))
+  ends_put : t2.len ≡ 0 → changed n (total (list vector o.second)) 0 ≡ total_ends text t t2 n
+  unfolding total_ends
+  ends_put none = rw (← e) (same_change n _ _ _ _ (omega (arith, no_sum t2 none)))
 
 -- The promise, of an answer with the states that were given, and of one that is done.
 pub kept_whole : (text : List ℕ) (first second : Vector) (s z : List ℕ) (a : Both) (m : ℕ) → a ≡ says m 0 first second
@@ -48,22 +48,22 @@ pub kept_whole : (text : List ℕ) (first second : Vector) (s z : List ℕ) (a :
 kept_whole text first second s z a m is e small small2 = record {
   row = ap (λ (a : Both). seen2 a s z) is ∙ sym e;
   slot = ap (λ (a : Both). a.slot) is;
-  total = ap (λ (a : Both). a.first.total.sum) is ∙ starts-same text (tray first s) (tray second z) _ first.total.sum (sym e) refl small;
+  total = ap (λ (a : Both). a.first.total.sum) is ∙ starts_same text (tray first s) (tray second z) _ first.total.sum (sym e) refl small;
   total2 = ap (λ (a : Both). a.second.total.sum) is ∙ ends_same text (tray first s) (tray second z) _ second.total.sum (sym e) refl small2;
 }
 
 -- what the function `enter` answers, where the slots come to hold s' and z'
-abbrev pub reads-to : (first second : Vector) (s' z' : List ℕ) (value count : ℕ) → Both
-reads-to first second s' z' value count =
+abbrev pub reads_to : (first second : Vector) (s' z' : List ℕ) (value count : ℕ) → Both
+reads_to first second s' z' value count =
     says 0 value (state count (summing (changed first.total.sum (total (entries itself count s')) 0)))
     (state count (summing (changed second.total.sum (total (entries itself count z')) 0)))
 
-pub grown : (text : List ℕ) (first second : Vector) (s z s' z' : List ℕ) (a : Both) (value count : ℕ) → a ≡ reads-to first second s' z' value count
-    → seen2 (reads-to first second s' z' value count) s' z' ≡ records text (tray first s) (tray second z) → first.len ≡ 0 → second.len ≡ 0
+pub grown : (text : List ℕ) (first second : Vector) (s z s' z' : List ℕ) (a : Both) (value count : ℕ) → a ≡ reads_to first second s' z' value count
+    → seen2 (reads_to first second s' z' value count) s' z' ≡ records text (tray first s) (tray second z) → first.len ≡ 0 → second.len ≡ 0
     → Records text first s second z a s' z'
 grown text first second s z s' z' a value count is e none none2 = record {
   row = ap (λ (a : Both). seen2 a s' z') is ∙ e;
   slot = ap (λ (a : Both). a.slot) is;
-  total = ap (λ (a : Both). a.first.total.sum) is ∙ starts-put text (tray first s) (tray second z) _ first.total.sum e none;
-  total2 = ap (λ (a : Both). a.second.total.sum) is ∙ ends-put text (tray first s) (tray second z) _ second.total.sum e none2;
+  total = ap (λ (a : Both). a.first.total.sum) is ∙ starts_put text (tray first s) (tray second z) _ first.total.sum e none;
+  total2 = ap (λ (a : Both). a.second.total.sum) is ∙ ends_put text (tray first s) (tray second z) _ second.total.sum e none2;
 }

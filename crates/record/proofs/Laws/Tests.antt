@@ -6,6 +6,6 @@ pub either : {A : Type 0} (P : A → Type 0) (c : Bool) {x y : A} → (c ≡ tru
 either P true t f = t refl
 either P false t f = f refl
 
-pub by-test : {A : Type 0} (c : Bool) → (c ≡ true → A) → (c ≡ false → A) → A
-by-test true t f = t refl
-by-test false t f = f refl
+pub by_test : {A : Type 0} (c : Bool) → (c ≡ true → A) → (c ≡ false → A) → A
+by_test true t f = t refl
+by_test false t f = f refl

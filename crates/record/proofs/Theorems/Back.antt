@@ -14,10 +14,10 @@ use Rattle.vector.specs.Seen.{tray}
 use Rattle.record.specs.Grammar.{Ends, Reads, Fits}
 use Rattle.record.specs.Places.{firsts, lasts}
 use Rattle.record.specs.Numbers.{Applies}
-use Rattle.record.specs.Undone.{ownBytes}
+use Rattle.record.specs.Undone.{own_bytes}
 use Rattle.record.specs.Written.{written}
-use Rattle.record.proofs.Theorems.RoundTrip.{writtenAt, written-reads, round_trip}
-use Rattle.record.proofs.Theorems.Numbers.{read_done, read-exactly}
+use Rattle.record.proofs.Theorems.RoundTrip.{written_at, written_reads, round_trip}
+use Rattle.record.proofs.Theorems.Numbers.{read_done, read_exactly}
 use Rattle.record.specs.contracts.read as read·fn
 use Rattle.record.proofs.read.Reads as read·reads
 
@@ -26,15 +26,15 @@ module _ (κs : Lfts 3) (a : ArgsD read·fn.signature κs) (r : ResD read·fn.si
   pub read_back : (f : List ℕ) (fs : List (List ℕ)) (rest : List ℕ) (next : ℕ) → Ends (length (written (f ∷ fs))) rest next → a.0.now ≡ written (f ∷ fs) ++ rest
       → r.number ≡ 0
       → (r.value ≡ next) × (fields : List (ℕ × ℕ)) × (list vector (tray r.first e.1.1.0.now) ≡ firsts fields)
-      × (list vector (tray r.second e.1.1.1.1.0.now) ≡ lasts fields) × (ownBytes a.0.now fields ≡ f ∷ fs)
+      × (list vector (tray r.second e.1.1.1.1.0.now) ≡ lasts fields) × (own_bytes a.0.now fields ≡ f ∷ fs)
   read_back f fs rest next ends is done =
       let d = read_done κs a r e learnt done in
       let back = round_trip f fs rest next ends d.fields d.next (subst (λ text. Reads text d.fields d.next) is d.reads) in
-      (d.value ∙ back.0, d.fields, d.starts, d.ends, ap (λ text. ownBytes text d.fields) is ∙ back.1)
+      (d.value ∙ back.0, d.fields, d.starts, d.ends, ap (λ text. own_bytes text d.fields) is ∙ back.1)
 
   -- and it is done, unless 1, 2, 5, 11 or 6 applies
-  pub read-back-done : (f : List ℕ) (fs : List (List ℕ)) (rest : List ℕ) (next : ℕ) → Ends (length (written (f ∷ fs))) rest next → a.0.now ≡ written (f ∷ fs) ++ rest
+  pub read_back_done : (f : List ℕ) (fs : List (List ℕ)) (rest : List ℕ) (next : ℕ) → Ends (length (written (f ∷ fs))) rest next → a.0.now ≡ written (f ∷ fs) ++ rest
       → ((j : ℕ) → Applies a.0.now (tray a.1.0 a.1.1.0.now) (tray a.1.1.1.0 a.1.1.1.1.0.now) j → (j ≡ 9) ⊎ (j ≡ 10))
       → r.number ≡ 0
-  read-back-done f fs rest next ends is only =
-      (read-exactly κs a r e learnt only).1 (subst Fits (sym is) (writtenAt 0 (f ∷ fs), next, written-reads f fs rest next ends))
+  read_back_done f fs rest next ends is only =
+      (read_exactly κs a r e learnt only).1 (subst Fits (sym is) (written_at 0 (f ∷ fs), next, written_reads f fs rest next ends))

@@ -3,28 +3,28 @@ use Prim.Native.Nat.{◌+◌, ◌-◌, ◌≤◌}
 use mathlib.Core.Path.{◌≡◌}
 use borrow.Author.Rules.{rules}
 use lib.ListN.{length, drop}
-use Rattle.record.specs.Steps.{run, isQuote}
-use Rattle.record.proofs.Laws.Runs.{run-block}
+use Rattle.record.specs.Steps.{run, is_quote}
+use Rattle.record.proofs.Laws.Runs.{run_block}
 use Rattle.record.proofs.clear_blocks.Statement.{statement}
 use Rattle.record.proofs.clear_blocks.Tie as tie
 
-abbrev invariant-loop : tie.invariant-loop
-invariant-loop text from i₀ i = (i ≤ length text) × (i + run isQuote (drop i text) ≡ from + run isQuote (drop from text))
+abbrev invariant_loop : tie.invariant_loop
+invariant_loop text from i₀ i = (i ≤ length text) × (i + run is_quote (drop i text) ≡ from + run is_quote (drop from text))
 
-abbrev decreases-loop : tie.decreases-loop
-decreases-loop text from i₀ i = length text - i
+abbrev decreases_loop : tie.decreases_loop
+decreases_loop text from i₀ i = length text - i
 
-pub clear-blocks-spec : {M : Type 1} → statement M
-clear-blocks-spec =
+pub clear_blocks_spec : {M : Type 1} → statement M
+clear_blocks_spec =
     tie.close
     (tie.spec
-    invariant-loop
-    decreases-loop
+    invariant_loop
+    decreases_loop
     (λ c. search rules)
     (λ c. search rules)
     (λ c κs. search rules)
     (λ c. search rules)
     (λ c. search rules)
     (λ c. search rules)
-    (λ c. search (run-block isQuote, rules))
+    (λ c. search (run_block is_quote, rules))
     (λ c. search rules))

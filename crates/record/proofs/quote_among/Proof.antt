@@ -3,27 +3,27 @@ use Prim.Native.Nat.{◌-◌, ◌≤◌}
 use mathlib.Core.Path.{◌≡◌}
 use borrow.Author.Rules.{rules}
 use lib.ListN.{take, drop}
-use Rattle.record.specs.Steps.{any, isQuote}
-use Rattle.record.proofs.Laws.Runs.{any_none, any-one, block-all}
+use Rattle.record.specs.Steps.{any, is_quote}
+use Rattle.record.proofs.Laws.Runs.{any_none, any_one, block_all}
 use Rattle.record.proofs.quote_among.Statement.{statement}
 use Rattle.record.proofs.quote_among.Tie as tie
 
-abbrev invariant-loop : tie.invariant-loop
-invariant-loop text at found₀ j₀ found j = (j ≤ 16) × (found ≡ any isQuote (take j (drop at text)))
+abbrev invariant_loop : tie.invariant_loop
+invariant_loop text at found₀ j₀ found j = (j ≤ 16) × (found ≡ any is_quote (take j (drop at text)))
 
-abbrev decreases-loop : tie.decreases-loop
-decreases-loop text at found₀ j₀ found j = 16 - j
+abbrev decreases_loop : tie.decreases_loop
+decreases_loop text at found₀ j₀ found j = 16 - j
 
-pub quote-among-spec : {M : Type 1} → statement M
-quote-among-spec =
+pub quote_among_spec : {M : Type 1} → statement M
+quote_among_spec =
     tie.close
     (tie.spec
-    invariant-loop
-    decreases-loop
-    (λ c. search (any_none isQuote, rules))
+    invariant_loop
+    decreases_loop
+    (λ c. search (any_none is_quote, rules))
     (λ c. search rules)
     (λ c. search rules)
     (λ c. search rules)
     (λ c. search rules)
-    (λ c. search (any-one isQuote, rules))
-    (λ c. search (block-all isQuote, rules)))
+    (λ c. search (any_one is_quote, rules))
+    (λ c. search (block_all is_quote, rules)))

@@ -2,30 +2,30 @@
 use Prim.Native.Nat.{◌+◌, ◌-◌}
 use borrow.Author.Rules.{rules}
 use lib.ListN.{length, drop}
-use Rattle.record.specs.Steps.{bodyRun}
-use Rattle.record.proofs.Laws.Runs.{Quoted, quoted-first, quoted-again, quoted-less, pair_inside, quoted-stop, quoted-over}
+use Rattle.record.specs.Steps.{body_run}
+use Rattle.record.proofs.Laws.Runs.{Quoted, quoted_first, quoted_again, quoted_less, pair_inside, quoted_stop, quoted_over}
 use Rattle.record.proofs.quoted_end.Statement.{statement}
 use Rattle.record.proofs.quoted_end.Tie as tie
 
-abbrev invariant-loop : tie.invariant-loop
-invariant-loop text from i₀ i = Quoted text i (from + bodyRun (drop from text))
+abbrev invariant_loop : tie.invariant_loop
+invariant_loop text from i₀ i = Quoted text i (from + body_run (drop from text))
 
-abbrev decreases-loop : tie.decreases-loop
-decreases-loop text from i₀ i = length text - i
+abbrev decreases_loop : tie.decreases_loop
+decreases_loop text from i₀ i = length text - i
 
-pub quoted-end-spec : {M : Type 1} → statement M
-quoted-end-spec =
+pub quoted_end_spec : {M : Type 1} → statement M
+quoted_end_spec =
     tie.close
     (tie.spec
-    invariant-loop
-    decreases-loop
+    invariant_loop
+    decreases_loop
     (λ c κs. search rules)
-    (λ c. search (quoted-first, rules))
+    (λ c. search (quoted_first, rules))
     (λ c. search rules)
     (λ c κs. search rules)
     (λ c. search rules)
     (λ c κs. search (pair_inside, rules))
-    (λ c. search (quoted-less, rules))
-    (λ c. search (quoted-again, rules))
-    (λ c. search (quoted-stop, rules))
-    (λ c. search (quoted-over, rules)))
+    (λ c. search (quoted_less, rules))
+    (λ c. search (quoted_again, rules))
+    (λ c. search (quoted_stop, rules))
+    (λ c. search (quoted_over, rules)))

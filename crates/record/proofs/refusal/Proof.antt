@@ -5,9 +5,9 @@ use Rattle.record.proofs.Laws.Saying.{tests}
 use Rattle.record.proofs.refusal.Statement.{statement}
 use Rattle.record.proofs.refusal.Tie as tie
 
-pub refusal-spec : {M : Type 1} → statement M
+pub refusal_spec : {M : Type 1} → statement M
 unfolding early
-refusal-spec =
+refusal_spec =
     tie.close
     (tie.spec
     (λ c κs. search rules)

@@ -1,11 +1,11 @@
 -- `answer` meets its promise: what is placed or called was taken, and no other line changes anything.
 use borrow.Author.Rules.{rules}
-use Rattle.replay.proofs.Taken.{only-taken}
+use Rattle.replay.proofs.Taken.{only_taken}
 use Rattle.replay.proofs.answer.Statement.{statement}
 use Rattle.replay.proofs.answer.Tie as tie
 
-pub answer-spec : {M : Type 1} → statement M
-answer-spec =
+pub answer_spec : {M : Type 1} → statement M
+answer_spec =
     tie.close
     (tie.spec
     (λ c κs. search rules)
@@ -25,12 +25,12 @@ answer-spec =
     (λ c. search rules)
     (λ c. search rules)
     (λ c. search rules)
-    (λ c. search (only-taken, rules))
+    (λ c. search (only_taken, rules))
     (λ c. search rules)
     (λ c. search rules)
     (λ c. search rules)
     (λ c. search rules)
-    (λ c. search (only-taken, rules))
+    (λ c. search (only_taken, rules))
     (λ c. search rules)
     (λ c. search rules)
     (λ c. search rules))

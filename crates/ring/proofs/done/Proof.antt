@@ -3,5 +3,5 @@ use borrow.Author.Rules.{rules}
 use Rattle.ring.proofs.done.Statement.{statement}
 use Rattle.ring.proofs.done.Tie as tie
 
-pub done-spec : {M : Type 1} → statement M
-done-spec = tie.close (tie.spec (λ c κs. search rules) (λ c κs. search rules) (λ c. cc))
+pub done_spec : {M : Type 1} → statement M
+done_spec = tie.close (tie.spec (λ c κs. search rules) (λ c κs. search rules) (λ c. cc))

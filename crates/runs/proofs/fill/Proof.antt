@@ -1,6 +1,6 @@
 -- `runs::fill` meets its promise: a run of slots is a run of positions, and past the last slot a second run goes on at slot 0.
 use Rattle.std.proofs.Common.{rules}
-use Rattle.slots.proofs.Fills.{fill-straight, fill-around}
+use Rattle.slots.proofs.Fills.{fill_straight, fill_around}
 use Rattle.runs.proofs.fill.Statement.{statement}
 use Rattle.runs.proofs.fill.Tie as tie
 
@@ -14,10 +14,10 @@ fill_spec =
     (λ c. search rules)
     (λ c κs. search rules)
     (λ c. search rules)
-    (λ c. search fill-straight)
+    (λ c. search fill_straight)
     (λ c κs. search rules)
     (λ c. search rules)
     (λ c. search rules)
     (λ c κs. search rules)
     (λ c. search rules)
-    (λ c. search fill-around))
+    (λ c. search fill_around))

@@ -6,18 +6,18 @@ use lib.ListN.{length}
 use Rattle.show.proofs.draw_list.Statement.{statement}
 use Rattle.show.proofs.draw_list.Tie as tie
 
-abbrev invariant-loop : tie.invariant-loop
-invariant-loop slots head len out₀ first₀ out first = (first ≤ len) × (length out ≡ 2048)
+abbrev invariant_loop : tie.invariant_loop
+invariant_loop slots head len out₀ first₀ out first = (first ≤ len) × (length out ≡ 2048)
 
-abbrev decreases-loop : tie.decreases-loop
-decreases-loop slots head len out₀ first₀ out first = len - first
+abbrev decreases_loop : tie.decreases_loop
+decreases_loop slots head len out₀ first₀ out first = len - first
 
-pub draw-list-spec : {M : Type 1} → statement M
-draw-list-spec =
+pub draw_list_spec : {M : Type 1} → statement M
+draw_list_spec =
     tie.close
     (tie.spec
-    invariant-loop
-    decreases-loop
+    invariant_loop
+    decreases_loop
     (λ c. search rules)
     (λ c κs. search rules)
     (λ c κs. search rules)

@@ -6,18 +6,18 @@ use lib.ListN.{length}
 use Rattle.show.proofs.draw_slots.Statement.{statement}
 use Rattle.show.proofs.draw_slots.Tie as tie
 
-abbrev invariant-loop : tie.invariant-loop
-invariant-loop slots head len out₀ w first₀ out first = (first ≤ length slots) × (length out ≡ 2048)
+abbrev invariant_loop : tie.invariant_loop
+invariant_loop slots head len out₀ w first₀ out first = (first ≤ length slots) × (length out ≡ 2048)
 
-abbrev decreases-loop : tie.decreases-loop
-decreases-loop slots head len out₀ w first₀ out first = length slots - first
+abbrev decreases_loop : tie.decreases_loop
+decreases_loop slots head len out₀ w first₀ out first = length slots - first
 
-pub draw-slots-spec : {M : Type 1} → statement M
-draw-slots-spec =
+pub draw_slots_spec : {M : Type 1} → statement M
+draw_slots_spec =
     tie.close
     (tie.spec
-    invariant-loop
-    decreases-loop
+    invariant_loop
+    decreases_loop
     (λ c κs. search rules)
     (λ c. search rules)
     (λ c κs. search rules)

@@ -6,18 +6,18 @@ use lib.ListN.{length}
 use Rattle.show.proofs.fill.Statement.{statement}
 use Rattle.show.proofs.fill.Tie as tie
 
-abbrev invariant-loop : tie.invariant-loop
-invariant-loop text₀ at₀ text at = (at ≤ length text) × (length text ≡ length text₀)
+abbrev invariant_loop : tie.invariant_loop
+invariant_loop text₀ at₀ text at = (at ≤ length text) × (length text ≡ length text₀)
 
-abbrev decreases-loop : tie.decreases-loop
-decreases-loop text₀ at₀ text at = length text₀ - at
+abbrev decreases_loop : tie.decreases_loop
+decreases_loop text₀ at₀ text at = length text₀ - at
 
 pub fill_spec : {M : Type 1} → statement M
 fill_spec =
     tie.close
     (tie.spec
-    invariant-loop
-    decreases-loop
+    invariant_loop
+    decreases_loop
     (λ c. search rules)
     (λ c. search rules)
     (λ c. search rules)

@@ -5,9 +5,9 @@ use Rattle.slots.specs.Layout.{slot_of}
 use Rattle.slots.proofs.one_back.Statement.{statement}
 use Rattle.slots.proofs.one_back.Tie as tie
 
-pub one-back-spec : {M : Type 1} → statement M
+pub one_back_spec : {M : Type 1} → statement M
 unfolding slot_of
-one-back-spec =
+one_back_spec =
     tie.close
     (tie.spec
     (λ c. omega arith)

@@ -5,9 +5,9 @@ use Rattle.slots.specs.Layout.{slot_of}
 use Rattle.slots.proofs.one_on.Statement.{statement}
 use Rattle.slots.proofs.one_on.Tie as tie
 
-pub one-on-spec : {M : Type 1} → statement M
+pub one_on_spec : {M : Type 1} → statement M
 unfolding slot_of
-one-on-spec =
+one_on_spec =
     tie.close
     (tie.spec
     (λ c. omega arith)

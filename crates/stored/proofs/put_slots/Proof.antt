@@ -4,25 +4,25 @@ use mathlib.Core.Path.{◌≡◌}
 use borrow.Author.Rules.{rules}
 use lib.ListN.{length, drop}
 use Rattle.digits.specs.Put.{put}
-use Rattle.stored.specs.Form.{slotLines}
-use Rattle.stored.proofs.Lines.{slots-turn, slots_end}
+use Rattle.stored.specs.Form.{slot_lines}
+use Rattle.stored.proofs.Lines.{slots_turn, slots_end}
 use Rattle.stored.proofs.put_slots.Statement.{statement}
 use Rattle.stored.proofs.put_slots.Tie as tie
 
-abbrev invariant-loop : tie.invariant-loop
-invariant-loop text₀ from slots i₀ at₀ text i at =
+abbrev invariant_loop : tie.invariant_loop
+invariant_loop text₀ from slots i₀ at₀ text i at =
     (i ≤ length slots) × (at ≡ from + 9 * i) × (length text ≡ length text₀)
-    × (put text at (slotLines (drop i slots)) ≡ put text₀ from (slotLines slots))
+    × (put text at (slot_lines (drop i slots)) ≡ put text₀ from (slot_lines slots))
 
-abbrev decreases-loop : tie.decreases-loop
-decreases-loop text₀ from slots i₀ at₀ text i at = length slots - i
+abbrev decreases_loop : tie.decreases_loop
+decreases_loop text₀ from slots i₀ at₀ text i at = length slots - i
 
-pub put-slots-spec : {M : Type 1} → statement M
-put-slots-spec =
+pub put_slots_spec : {M : Type 1} → statement M
+put_slots_spec =
     tie.close
     (tie.spec
-    invariant-loop
-    decreases-loop
+    invariant_loop
+    decreases_loop
     (λ c. search rules)
     (λ c. search rules)
     (λ c. search rules)
@@ -30,6 +30,6 @@ put-slots-spec =
     (λ c. search rules)
     (λ c. search rules)
     (λ c. search rules)
-    (λ c. search (slots-turn, rules))
+    (λ c. search (slots_turn, rules))
     (λ c. search rules)
     (λ c. search (slots_end, rules)))

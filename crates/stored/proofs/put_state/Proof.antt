@@ -2,12 +2,12 @@
 use native.Mathlib.Omega.{arith}
 use borrow.Author.Rules.{rules}
 use lib.ListN.{length-set}
-use Rattle.stored.proofs.Lines.{state-put}
+use Rattle.stored.proofs.Lines.{state_put}
 use Rattle.stored.proofs.put_state.Statement.{statement}
 use Rattle.stored.proofs.put_state.Tie as tie
 
-pub put-state-spec : {M : Type 1} → statement M
-put-state-spec =
+pub put_state_spec : {M : Type 1} → statement M
+put_state_spec =
     tie.close
     (tie.spec
     (λ c κs. search rules)
@@ -15,4 +15,4 @@ put-state-spec =
     (λ c κs. search rules)
     (λ c. search rules)
     (λ c. simp length-set (omega arith))
-    (λ c. search state-put))
+    (λ c. search state_put))

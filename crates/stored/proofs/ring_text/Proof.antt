@@ -2,13 +2,13 @@
 use borrow.Author.Rules.{rules}
 use Rattle.table.proofs.Laws.Valid.{state}
 use Rattle.stored.specs.Written.{writes}
-use Rattle.stored.proofs.Writes.{ring-write-done, refusals, shown}
+use Rattle.stored.proofs.Writes.{ring_write_done, refusals, shown}
 use Rattle.stored.proofs.ring_text.Statement.{statement}
 use Rattle.stored.proofs.ring_text.Tie as tie
 
-pub ring-text-spec : {M : Type 1} → statement M
+pub ring_text_spec : {M : Type 1} → statement M
 unfolding writes
-ring-text-spec =
+ring_text_spec =
     tie.close
     (tie.spec
     (λ c κs. search rules)
@@ -23,4 +23,4 @@ ring-text-spec =
     (λ c. omega state)
     (λ c κs. search rules)
     (λ c. search rules)
-    (λ c. search (ring-write-done, shown)))
+    (λ c. search (ring_write_done, shown)))

@@ -2,13 +2,13 @@
 use borrow.Author.Rules.{rules}
 use Rattle.table.proofs.Laws.Valid.{state}
 use Rattle.stored.specs.Written.{writes}
-use Rattle.stored.proofs.Writes.{vector-write-done, refusals, shown}
+use Rattle.stored.proofs.Writes.{vector_write_done, refusals, shown}
 use Rattle.stored.proofs.vector_text.Statement.{statement}
 use Rattle.stored.proofs.vector_text.Tie as tie
 
-pub vector-text-spec : {M : Type 1} → statement M
+pub vector_text_spec : {M : Type 1} → statement M
 unfolding writes
-vector-text-spec =
+vector_text_spec =
     tie.close
     (tie.spec
     (λ c κs. search rules)
@@ -23,4 +23,4 @@ vector-text-spec =
     (λ c. omega state)
     (λ c κs. search rules)
     (λ c. search rules)
-    (λ c. search (vector-write-done, shown)))
+    (λ c. search (vector_write_done, shown)))

@@ -18,7 +18,7 @@ abbrev four : Call → Tray → List ℕ
 four call t = with_head call t 0 ∷ with_head call t 1 ∷ with_head call t 2 ∷ with_head call t 3 ∷ []
 
 -- W has its head in slot 2. It stays there, or goes to slot 1 for an insertion and to slot 3 for a removal; with another head all that remain move.
-on-W :
+on_W :
     (four (insert 0 8) W ≡ 3 ∷ 0 ∷ 3 ∷ 3 ∷ [])
     × (four (insert 1 8) W ≡ 3 ∷ 1 ∷ 2 ∷ 3 ∷ [])
     × (four (insert 2 8) W ≡ 3 ∷ 2 ∷ 1 ∷ 3 ∷ [])
@@ -27,7 +27,7 @@ on-W :
     × (four (remove 1) W ≡ 2 ∷ 2 ∷ 1 ∷ 1 ∷ [])
     × (four (remove 2) W ≡ 2 ∷ 2 ∷ 0 ∷ 2 ∷ [])
 unfolding moved tally one slot_of
-on-W = (refl, refl, refl, refl, refl, refl, refl)
+on_W = (refl, refl, refl, refl, refl, refl, refl)
 
 -- As many on either side: two heads do as well. Nothing there yet: all do.
 as_many :
@@ -37,12 +37,12 @@ unfolding moved tally one slot_of
 as_many = (refl, refl)
 
 -- a full ring, from which one is taken
-from-full :
+from_full :
     (four (remove 0) (tray 1 4 (8 ∷ 5 ∷ 6 ∷ 7 ∷ [])) ≡ 3 ∷ 3 ∷ 0 ∷ 3 ∷ [])
     × (four (remove 1) (tray 1 4 (8 ∷ 5 ∷ 6 ∷ 7 ∷ [])) ≡ 3 ∷ 2 ∷ 1 ∷ 3 ∷ [])
     × (four (remove 3) (tray 1 4 (8 ∷ 5 ∷ 6 ∷ 7 ∷ [])) ≡ 3 ∷ 0 ∷ 3 ∷ 3 ∷ [])
 unfolding moved tally one slot_of
-from-full = (refl, refl, refl)
+from_full = (refl, refl, refl)
 
 -- One slot is a head for itself; and where nothing is left, head 0 alone is valid.
 only_one :
@@ -58,8 +58,8 @@ only_one = (refl, refl, refl, refl, refl, refl, refl)
 
 -- Three entries in slots 0, 1 and 2 of four. No ring: a new one at position 1 stands in slot 3, and all others where they stood; the one at position 1 goes and
 -- leaves its slot free, and the others stay.
-no-ring :
+no_ring :
     (moved (place ring 4 0) (λ p. get_or (0 ∷ 3 ∷ 1 ∷ 2 ∷ []) p 0) (inserted 1) 3 ≡ 0)
     × (moved (place ring 4 0) (λ p. get_or (0 ∷ 2 ∷ []) p 0) (removed 1) 3 ≡ 0)
 unfolding moved tally one slot_of
-no-ring = (refl, refl)
+no_ring = (refl, refl)

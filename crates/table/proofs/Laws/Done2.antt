@@ -11,17 +11,17 @@ use Rattle.slots.specs.Moves.{moved}
 use Rattle.slots.specs.Shift.{Filled}
 use Rattle.slots.specs.Copy.{Laid}
 use Rattle.slots.proofs.Placing.{Placing, placing}
-use Rattle.slots.proofs.Moves.{moved-kept}
-use Rattle.slots.proofs.Fills.{fill_none, relaid-take}
-use Rattle.slots.proofs.Lays.{entries-until, lay-none, lay-all, lay-placed, relaid-append, relaid-fresh, relaid-clear}
+use Rattle.slots.proofs.Moves.{moved_kept}
+use Rattle.slots.proofs.Fills.{fill_none, relaid_take}
+use Rattle.slots.proofs.Lays.{entries_until, lay_none, lay_all, lay_placed, relaid_append, relaid_fresh, relaid_clear}
 use Rattle.table.specs.Tray.{Tray, cap, list, invalid, Cursor, nowhere}
-use Rattle.table.specs.Calls.{Call2, append, splitOff, clone, fromIter}
+use Rattle.table.specs.Calls.{Call2, append, split_off, clone, from_iter}
 use Rattle.table.specs.Table.{Row2, after2, remaining, holding}
-use Rattle.table.specs.Does.{Outcome2, refused2, headAfter, done2, rowOf2, refusalsOf2, does2}
+use Rattle.table.specs.Does.{Outcome2, refused2, head_after, done2, row_of2, refusals_of2, does2}
 use Rattle.table.proofs.Theorems.Carrying.{Carries}
 use Rattle.table.proofs.Laws.Valid.{fit}
 use Rattle.table.proofs.Laws.Refusals.{Clear, clear_of, inside}
-use Rattle.table.proofs.Laws.Done.{Homed, home-of-none, no-head, head-stays, rested-slots, shifted-plainly, row-carries2, many, still, as_it_was}
+use Rattle.table.proofs.Laws.Done.{Homed, home_of_none, no_head_law, head_stays, rested_slots, shifted_plainly, row_carries2, many, still, as_it_was}
 
 -- a call that is done, moves nothing and has no cursor
 abbrev pub gives2 : (value h n : ℕ) → List ℕ → (h2 n2 : ℕ) → List ℕ → Outcome2
@@ -50,12 +50,12 @@ free : (t2 : Tray) → t2.len ≡ 0 → holding t2.len ≡ false
 free t2 none = rw (eq-eqb t2.len 0 none)
 
 -- a call on two valid containers that no refusal of its row stops
-pub done2-is : (k k2 : Kind) (t t2 : Tray) (call : Call2) → invalid k t ≡ false → invalid k2 t2 ≡ false → Clear (rowOf2 k k2 call t t2).refusals
-    → does2 k k2 call t t2 ≡ done2 k k2 t t2 (after2 call (list k t) (list k2 t2)) (rowOf2 k k2 call t t2)
+pub done2_is : (k k2 : Kind) (t t2 : Tray) (call : Call2) → invalid k t ≡ false → invalid k2 t2 ≡ false → Clear (row_of2 k k2 call t t2).refusals
+    → does2 k k2 call t t2 ≡ done2 k k2 t t2 (after2 call (list k t) (list k2 t2)) (row_of2 k k2 call t t2)
 unfolding does2
-done2-is k k2 t t2 call ok ok2 clear =
-    let all : Clear (refusalsOf2 k k2 call t t2) = (ok, (ok2, clear)) in
-    clear_of (refused2 t t2 (rowOf2 k k2 call t t2).given) (refusalsOf2 k k2 call t t2) (done2 k k2 t t2 (after2 call (list k t) (list k2 t2)) (rowOf2 k k2 call t t2)) all
+done2_is k k2 t t2 call ok ok2 clear =
+    let all : Clear (refusals_of2 k k2 call t t2) = (ok, (ok2, clear)) in
+    clear_of (refused2 t t2 (row_of2 k k2 call t t2).given) (refusals_of2 k k2 call t t2) (done2 k k2 t t2 (after2 call (list k t) (list k2 t2)) (row_of2 k k2 call t t2)) all
 
 -- what it gives, with positions counted from the first's own head and the row's of T, as `plainly` has it of one
 abbrev plainly2 : (k k2 : Kind) (t t2 : Tray) → (ls : List ℕ × List ℕ) → Row2 → Outcome2
@@ -64,12 +64,12 @@ plainly2 k k2 t t2 ls r = record {
   value = r.value;
   moves = moved (place k (cap t) t.head) (place k (cap t) t.head) r.carry t.len;
   first = record {
-    head = headAfter k (length ls.0) t.head;
+    head = head_after k (length ls.0) t.head;
     len = length ls.0;
     slots = relaid (pos k (cap t) t.head) (pos k (cap t) t.head) t.len ls.0 t.slots;
   };
   second = record {
-    head = headAfter k2 (length ls.1) r.head2;
+    head = head_after k2 (length ls.1) r.head2;
     len = length ls.1;
     slots = relaid (pos k2 (cap t2) t2.head) (pos k2 (cap t2) r.head2) t2.len ls.1 t2.slots;
   };
@@ -79,15 +79,15 @@ plainly2 k k2 t t2 ls r = record {
 rests2 : (k k2 : Kind) (t t2 : Tray) (ls : List ℕ × List ℕ) (r : Row2) → Carries r.carry (list k t) ls.0 → done2 k k2 t t2 ls r ≡ plainly2 k k2 t t2 ls r
 rests2 k k2 t t2 ls r c =
     rw (
-      rested-slots k (cap t) t.head t.len (pos k (cap t) t.head) ls.0 t.slots,
-      rested-slots k2 (cap t2) r.head2 t2.len (pos k2 (cap t2) t2.head) ls.1 t2.slots,
-      shifted-plainly k t ls.0 t.head r.carry c,
+      rested_slots k (cap t) t.head t.len (pos k (cap t) t.head) ls.0 t.slots,
+      rested_slots k2 (cap t2) r.head2 t2.len (pos k2 (cap t2) t2.head) ls.1 t2.slots,
+      shifted_plainly k t ls.0 t.head r.carry c,
     )
 
-pub done2-plainly : (k k2 : Kind) (t t2 : Tray) (call : Call2) → invalid k t ≡ false → invalid k2 t2 ≡ false → Clear (rowOf2 k k2 call t t2).refusals
-    → does2 k k2 call t t2 ≡ plainly2 k k2 t t2 (after2 call (list k t) (list k2 t2)) (rowOf2 k k2 call t t2)
-done2-plainly k k2 t t2 call ok ok2 clear =
-    done2-is k k2 t t2 call ok ok2 clear ∙ rests2 k k2 t t2 (after2 call (list k t) (list k2 t2)) (rowOf2 k k2 call t t2) (row-carries2 k k2 t t2 call)
+pub done2_plainly : (k k2 : Kind) (t t2 : Tray) (call : Call2) → invalid k t ≡ false → invalid k2 t2 ≡ false → Clear (row_of2 k k2 call t t2).refusals
+    → does2 k k2 call t t2 ≡ plainly2 k k2 t t2 (after2 call (list k t) (list k2 t2)) (row_of2 k k2 call t t2)
+done2_plainly k k2 t t2 call ok ok2 clear =
+    done2_is k k2 t t2 call ok ok2 clear ∙ rests2 k k2 t t2 (after2 call (list k t) (list k2 t2)) (row_of2 k k2 call t t2) (row_carries2 k k2 t t2 call)
 
 module _ (k k2 : Kind) (t t2 : Tray) (o : Outcome2) (ok : invalid k t ≡ false) (ok2 : invalid k2 t2 ≡ false) where
   -- T's positions from head 0 on
@@ -95,28 +95,28 @@ module _ (k k2 : Kind) (t t2 : Tray) (o : Outcome2) (ok : invalid k t ≡ false)
   anew = placing k2 (cap t2) 0 (omega arith)
 
   appends : (u u2 : List ℕ) → t2.len ≤ cap t - t.len → Laid (place k (cap t) t.head) t.len t2.len (list k2 t2) t.slots u
-      → Filled (place k2 (cap t2) t2.head) 0 t2.len 0 t2.slots u2 → o ≡ gives2 0 (headAfter k (t.len + t2.len) t.head) (t.len + t2.len) u 0 0 u2 → o ≡ does2 k k2 append t t2
+      → Filled (place k2 (cap t2) t2.head) 0 t2.len 0 t2.slots u2 → o ≡ gives2 0 (head_after k (t.len + t2.len) t.head) (t.len + t2.len) u 0 0 u2 → o ≡ does2 k k2 append t t2
   appends u u2 room m m2 eo =
       let f = fit k t ok in
       let longer : length (list k t ++ list k2 t2) ≡ t.len + t2.len = simp (length-append, many k t, many k2 t2) in
       cc (
-        done2-plainly k k2 t t2 append ok ok2 (le-ltb _ _ room, tt),
+        done2_plainly k k2 t t2 append ok ok2 (le-ltb _ _ room, tt),
         eo,
         longer,
         still k t,
-        no-head k2 0,
-        relaid-append _ _ t.len t2.len (list k2 t2) t.slots u f.placed (many k2 t2) (omega (arith, f.fits)) m,
-        relaid-clear _ _ _ _ t2.len t2.slots u2 (fit k2 t2 ok2).placed anew m2,
+        no_head_law k2 0,
+        relaid_append _ _ t.len t2.len (list k2 t2) t.slots u f.placed (many k2 t2) (omega (arith, f.fits)) m,
+        relaid_clear _ _ _ _ t2.len t2.slots u2 (fit k2 t2 ok2).placed anew m2,
       )
 
   -- NOTHING GOES OVER, and T is empty already: its head is 0.
   at_home : (h n : ℕ) (u : List ℕ) → Homed k2 t2 → t2.len ≡ 0 → gives2 0 h n u t2.head t2.len t2.slots ≡ gives2 0 h n u 0 0 t2.slots
-  at_home h n u home2 none = ap₂ (λ h2 n2. gives2 0 h n u h2 n2 t2.slots) (sym home2 ∙ home-of-none k2 t2.len t2.head none) none
+  at_home h n u home2 none = ap₂ (λ h2 n2. gives2 0 h n u h2 n2 t2.slots) (sym home2 ∙ home_of_none k2 t2.len t2.head none) none
 
-  pub append-none-done : Homed k t → Homed k2 t2 → t2.len ≡ 0 → o ≡ gives2 0 t.head t.len t.slots t2.head t2.len t2.slots → o ≡ does2 k k2 append t t2
-  append-none-done home home2 none eo =
+  pub append_none_done : Homed k t → Homed k2 t2 → t2.len ≡ 0 → o ≡ gives2 0 t.head t.len t.slots t2.head t2.len t2.slots → o ≡ does2 k k2 append t t2
+  append_none_done home home2 none eo =
       let sum : t.len + t2.len ≡ t.len = omega arith in
-      appends t.slots t2.slots (omega arith) (rw none (lay-none _ _ _ _)) (rw none (fill_none _ _ _ _)) (rw (sum, home) (eo ∙ at_home _ _ _ home2 none))
+      appends t.slots t2.slots (omega arith) (rw none (lay_none _ _ _ _)) (rw none (fill_none _ _ _ _)) (rw (sum, home) (eo ∙ at_home _ _ _ home2 none))
 
   -- T, which is empty, gets a part of the list
   cloned : Homed k t → (u2 : List ℕ) → t2.len ≡ 0 → t.len ≤ cap t2 → Laid (place k2 (cap t2) 0) 0 t.len (list k t) t2.slots u2
@@ -124,60 +124,60 @@ module _ (k k2 : Kind) (t t2 : Tray) (o : Outcome2) (ok : invalid k t ≡ false)
   cloned home u2 none room m eo =
       cc (
         home,
-        done2-plainly k k2 t t2 clone ok ok2 (free t2 none, (le-ltb _ _ room, tt)),
+        done2_plainly k k2 t t2 clone ok ok2 (free t2 none, (le-ltb _ _ room, tt)),
         none,
         eo,
         many k t,
         still k t,
         as_it_was k t ok,
-        no-head k2 t.len,
-        relaid-fresh (pos k2 (cap t2) t2.head) _ _ t.len (list k t) t2.slots u2 anew (many k t) m,
+        no_head_law k2 t.len,
+        relaid_fresh (pos k2 (cap t2) t2.head) _ _ t.len (list k t) t2.slots u2 anew (many k t) m,
       )
 
   -- laid from slot 0 on, as the code has it: there a ring's position is its slot, as a vector's is
-  pub clone-done : Homed k t → (u2 : List ℕ) → t2.len ≡ 0 → t.len ≤ cap t2 → Laid itself 0 (t.len - 0) (drop 0 (list k t)) t2.slots u2
+  pub clone_done : Homed k t → (u2 : List ℕ) → t2.len ≡ 0 → t.len ≤ cap t2 → Laid itself 0 (t.len - 0) (drop 0 (list k t)) t2.slots u2
       → o ≡ gives2 0 t.head t.len t.slots 0 t.len u2 → o ≡ does2 k k2 clone t t2
-  clone-done home u2 none room m eo = cloned home u2 none room (lay-placed k2 t.len _ _ u2 room (lay-all itself 0 t.len _ _ u2 m)) eo
+  clone_done home u2 none room m eo = cloned home u2 none room (lay_placed k2 t.len _ _ u2 room (lay_all itself 0 t.len _ _ u2 m)) eo
 
-  pub clone-none-done : Homed k t → Homed k2 t2 → t2.len ≡ 0 → t.len ≡ 0 → o ≡ gives2 0 t.head t.len t.slots t2.head t2.len t2.slots → o ≡ does2 k k2 clone t t2
-  clone-none-done home home2 none none1 eo = cloned home t2.slots none (omega arith) (rw none1 (lay-none _ _ _ _)) (cc (eo, at_home t.head t.len t.slots home2 none, none1))
+  pub clone_none_done : Homed k t → Homed k2 t2 → t2.len ≡ 0 → t.len ≡ 0 → o ≡ gives2 0 t.head t.len t.slots t2.head t2.len t2.slots → o ≡ does2 k k2 clone t t2
+  clone_none_done home home2 none none1 eo = cloned home t2.slots none (omega arith) (rw none1 (lay_none _ _ _ _)) (cc (eo, at_home t.head t.len t.slots home2 none, none1))
 
   split : (i : ℕ) (u u2 : List ℕ) → i ≤ t.len → t2.len ≡ 0 → t.len - i ≤ cap t2 → Filled (place k (cap t) t.head) i t.len 0 t.slots u
       → Laid (place k2 (cap t2) 0) 0 (t.len - i) (drop i (list k t)) t2.slots u2
-      → o ≡ gives2 0 (headAfter k i t.head) i u 0 (t.len - i) u2 → o ≡ does2 k k2 (splitOff i) t t2
+      → o ≡ gives2 0 (head_after k i t.head) i u 0 (t.len - i) u2 → o ≡ does2 k k2 (split_off i) t t2
   split i u u2 le none room m m2 eo =
       let f = fit k t ok in
       let cut : length (take i (list k t)) ≡ i = simp (length-take, many k t) (omega arith) in
       let rest : length (drop i (list k t)) ≡ t.len - i = simp (length-drop, many k t) in
       cc (
-        done2-plainly k k2 t t2 (splitOff i) ok ok2 (le-ltb _ _ le, (free t2 none, (le-ltb _ _ room, tt))),
+        done2_plainly k k2 t t2 (split_off i) ok ok2 (le-ltb _ _ le, (free t2 none, (le-ltb _ _ room, tt))),
         none,
         eo,
         cut,
         rest,
-        moved-kept (place k (cap t) t.head) i t.len,
-        no-head k2 (t.len - i),
-        relaid-take _ _ t.len i t.slots u f.placed f.fits le m,
-        relaid-fresh (pos k2 (cap t2) t2.head) _ _ (t.len - i) (drop i (list k t)) t2.slots u2 anew rest m2,
+        moved_kept (place k (cap t) t.head) i t.len,
+        no_head_law k2 (t.len - i),
+        relaid_take _ _ t.len i t.slots u f.placed f.fits le m,
+        relaid_fresh (pos k2 (cap t2) t2.head) _ _ (t.len - i) (drop i (list k t)) t2.slots u2 anew rest m2,
       )
 
   -- of nothing
-  pub split-none-done : Homed k t → Homed k2 t2 → (i : ℕ) → i ≤ t.len → t2.len ≡ 0 → t.len ≤ i → o ≡ gives2 0 t.head t.len t.slots t2.head t2.len t2.slots
-      → o ≡ does2 k k2 (splitOff i) t t2
-  split-none-done home home2 i le none ge eo =
+  pub split_none_done : Homed k t → Homed k2 t2 → (i : ℕ) → i ≤ t.len → t2.len ≡ 0 → t.len ≤ i → o ≡ gives2 0 t.head t.len t.slots t2.head t2.len t2.slots
+      → o ≡ does2 k k2 (split_off i) t t2
+  split_none_done home home2 i le none ge eo =
       let e : i ≡ t.len = omega arith in
       let z : t.len - i ≡ 0 = omega arith in
-      split i t.slots t2.slots le none (omega arith) (rw e (fill_none _ _ _ _)) (rw z (lay-none _ _ _ _)) (cc (eo, at_home t.head t.len t.slots home2 none, e, z, home))
+      split i t.slots t2.slots le none (omega arith) (rw e (fill_none _ _ _ _)) (rw z (lay_none _ _ _ _)) (cc (eo, at_home t.head t.len t.slots home2 none, e, z, home))
 
 -- T, a vector that is empty, gets what remains of a cursor, and the cursor ends
 module _ (k : Kind) (t t2 : Tray) (o : Outcome2) (ok : invalid k t ≡ false) (ok2 : invalid vector t2 ≡ false) (c : Cursor) (ordered : c.front ≤ c.back)
     (fits : c.back ≤ t.len) (none : t2.len ≡ 0) (home : Homed k t) where
-  from-iter : (u2 : List ℕ) → c.back - c.front ≤ cap t2 → Laid itself 0 (c.back - c.front) (remaining c (list k t)) t2.slots u2
-      → o ≡ fills t (c.back - c.front) u2 c.back → o ≡ does2 k vector (fromIter c) t t2
-  from-iter u2 room m eo =
+  from_iter_law : (u2 : List ℕ) → c.back - c.front ≤ cap t2 → Laid itself 0 (c.back - c.front) (remaining c (list k t)) t2.slots u2
+      → o ≡ fills t (c.back - c.front) u2 c.back → o ≡ does2 k vector (from_iter c) t t2
+  from_iter_law u2 room m eo =
       let long : length (remaining c (list k t)) ≡ c.back - c.front = simp (length-take, length-drop, many k t) (omega arith) in
       cc (
-        done2-plainly k vector t t2 (fromIter c) ok ok2 (inside c.front c.back t.len ordered fits, (free t2 none, (le-ltb _ _ room, tt))),
+        done2_plainly k vector t t2 (from_iter c) ok ok2 (inside c.front c.back t.len ordered fits, (free t2 none, (le-ltb _ _ room, tt))),
         none,
         eo,
         long,
@@ -185,42 +185,42 @@ module _ (k : Kind) (t t2 : Tray) (o : Outcome2) (ok : invalid k t ≡ false) (o
         still k t,
         home,
         as_it_was k t ok,
-        relaid-fresh itself itself itself (c.back - c.front) (remaining c (list k t)) t2.slots u2 (anew k vector t t2 o ok ok2) long m,
+        relaid_fresh itself itself itself (c.back - c.front) (remaining c (list k t)) t2.slots u2 (anew k vector t t2 o ok ok2) long m,
       )
 
   -- an ended cursor
-  pub from-iter-none-done : c.front ≡ c.back → o ≡ fills t 0 t2.slots c.back → o ≡ does2 k vector (fromIter c) t t2
-  from-iter-none-done ended eo =
+  pub from_iter_none_done : c.front ≡ c.back → o ≡ fills t 0 t2.slots c.back → o ≡ does2 k vector (from_iter c) t t2
+  from_iter_none_done ended eo =
       let z : c.back - c.front ≡ 0 = omega arith in
-      from-iter t2.slots (omega arith) (rw z (lay-none _ _ _ _)) (cc (eo, z))
+      from_iter_law t2.slots (omega arith) (rw z (lay_none _ _ _ _)) (cc (eo, z))
 
 -- the entries up to the cursor's back, from its front on
-pub from-iter-done : (k : Kind) (t t2 : Tray) (o : Outcome2) → invalid k t ≡ false → invalid vector t2 ≡ false → (c : Cursor) (u2 : List ℕ) → c.front ≤ c.back
+pub from_iter_done : (k : Kind) (t t2 : Tray) (o : Outcome2) → invalid k t ≡ false → invalid vector t2 ≡ false → (c : Cursor) (u2 : List ℕ) → c.front ≤ c.back
     → c.back ≤ t.len → t2.len ≡ 0 → Homed k t → c.back - c.front ≤ cap t2
     → Laid itself 0 (c.back - c.front) (drop c.front (entries (place k (cap t) t.head) c.back t.slots)) t2.slots u2
-    → o ≡ fills t (c.back - c.front) u2 c.back → o ≡ does2 k vector (fromIter c) t t2
-from-iter-done k t t2 o ok ok2 c u2 le fits none home room m eo =
-    from-iter k t t2 o ok ok2 c le fits none home u2 room (rw (entries-until (place k (cap t) t.head) t.len c.front c.back t.slots fits) m) eo
+    → o ≡ fills t (c.back - c.front) u2 c.back → o ≡ does2 k vector (from_iter c) t t2
+from_iter_done k t t2 o ok ok2 c u2 le fits none home room m eo =
+    from_iter_law k t t2 o ok ok2 c le fits none home u2 room (rw (entries_until (place k (cap t) t.head) t.len c.front c.back t.slots fits) m) eo
 
 -- Of a ring, which keeps its head while entries come.
-pub append-done : (k2 : Kind) (t t2 : Tray) (o : Outcome2) → invalid ring t ≡ false → invalid k2 t2 ≡ false → (u u2 : List ℕ) → t2.len ≤ cap t - t.len
+pub append_done : (k2 : Kind) (t t2 : Tray) (o : Outcome2) → invalid ring t ≡ false → invalid k2 t2 ≡ false → (u u2 : List ℕ) → t2.len ≤ cap t - t.len
     → Laid (slot_of (cap t) t.head) t.len t2.len (list k2 t2) t.slots u → Filled (place k2 (cap t2) t2.head) 0 t2.len 0 t2.slots u2
     → o ≡ gives2 0 t.head (t.len + t2.len) u 0 0 u2 → o ≡ does2 ring k2 append t t2
-append-done k2 t t2 o ok ok2 u u2 room m m2 eo = appends ring k2 t t2 o ok ok2 u u2 room m m2 (rw (head-stays t ok (t.len + t2.len) (omega arith)) eo)
+append_done k2 t t2 o ok ok2 u u2 room m m2 eo = appends ring k2 t t2 o ok ok2 u u2 room m m2 (rw (head_stays t ok (t.len + t2.len) (omega arith)) eo)
 
 pub split_done : (k2 : Kind) (t t2 : Tray) (o : Outcome2) → invalid ring t ≡ false → invalid k2 t2 ≡ false → (i : ℕ) (u u2 : List ℕ) → i ≤ t.len
     → t2.len ≡ 0 → t.len - i ≤ cap t2 → Filled (slot_of (cap t) t.head) i t.len 0 t.slots u
     → Laid (place k2 (cap t2) 0) 0 (t.len - i) (drop i (list ring t)) t2.slots u2
-    → o ≡ gives2 0 (headAfter ring i t.head) i u 0 (t.len - i) u2 → o ≡ does2 ring k2 (splitOff i) t t2
+    → o ≡ gives2 0 (head_after ring i t.head) i u 0 (t.len - i) u2 → o ≡ does2 ring k2 (split_off i) t t2
 split_done k2 t t2 o ok ok2 i u u2 le none room m m2 eo = split ring k2 t t2 o ok ok2 i u u2 le none room m m2 eo
 
 -- Vectors, whose entries are their first slots.
 module _ (t t2 : Tray) (o : Outcome2) (ok : invalid vector t ≡ false) (ok2 : invalid vector t2 ≡ false) where
-  pub vector-append-done : (u u2 : List ℕ) → t2.len ≤ cap t - t.len → Laid itself t.len t2.len (list vector t2) t.slots u
+  pub vector_append_done : (u u2 : List ℕ) → t2.len ≤ cap t - t.len → Laid itself t.len t2.len (list vector t2) t.slots u
       → Filled itself 0 t2.len 0 t2.slots u2 → o ≡ gives2 0 0 (t.len + t2.len) u 0 0 u2 → o ≡ does2 vector vector append t t2
-  vector-append-done u u2 room m m2 eo = appends vector vector t t2 o ok ok2 u u2 room m m2 eo
+  vector_append_done u u2 room m m2 eo = appends vector vector t t2 o ok ok2 u u2 room m m2 eo
 
-  pub vector-split-done : (i : ℕ) (u u2 : List ℕ) → i ≤ t.len → t2.len ≡ 0 → t.len - i ≤ cap t2
+  pub vector_split_done : (i : ℕ) (u u2 : List ℕ) → i ≤ t.len → t2.len ≡ 0 → t.len - i ≤ cap t2
       → Laid itself 0 (t.len - i) (drop i (list vector t)) t2.slots u2 → Filled itself i t.len 0 t.slots u
-      → o ≡ gives2 0 0 i u 0 (t.len - i) u2 → o ≡ does2 vector vector (splitOff i) t t2
-  vector-split-done i u u2 le none room m2 m eo = split vector vector t t2 o ok ok2 i u u2 le none room m m2 eo
+      → o ≡ gives2 0 0 i u 0 (t.len - i) u2 → o ≡ does2 vector vector (split_off i) t t2
+  vector_split_done i u u2 le none room m2 m eo = split vector vector t t2 o ok ok2 i u u2 le none room m m2 eo

@@ -1,4 +1,4 @@
--- Sameness, of any two kinds that have it: what the code's comparison tells is what `equalLists` says, and the answer leaves both as they were.
+-- Sameness, of any two kinds that have it: what the code's comparison tells is what `equal_lists` says, and the answer leaves both as they were.
 use mathlib.Core.Path.{◌≡◌, refl, sym, ◌∙◌, subst}
 use mathlib.Core.Bool.{Bool, true, false, cond, true≢false, false≢true}
 use mathlib.Core.List.{List, [], ◌∷◌, List-discrete}
@@ -9,46 +9,46 @@ use borrow.Author.Tests.{eq-eqb, eqb-true}
 use lib.Dec.{eqb}
 use Rattle.slots.specs.Layout.{Kind, place, entries}
 use Rattle.slots.specs.Compare.{Tells}
-use Rattle.slots.proofs.Compares.{tells-long}
+use Rattle.slots.proofs.Compares.{tells_long}
 use Rattle.table.specs.Tray.{Tray, cap, list, invalid}
 use Rattle.table.specs.Calls.{same}
-use Rattle.table.specs.Table.{equalLists}
+use Rattle.table.specs.Table.{equal_lists}
 use Rattle.table.specs.Does.{Outcome2, does2}
 use Rattle.table.proofs.Laws.Valid.{and_left, and_right}
 use Rattle.table.proofs.Laws.Done.{Homed, many, still, as_it_was}
-use Rattle.table.proofs.Laws.Done2.{gives2, done2-is}
+use Rattle.table.proofs.Laws.Done2.{gives2, done2_is}
 
--- `equalLists` says yes exactly of equal lists
-itself-equal : (l : List ℕ) → equalLists l l ≡ true
-itself-equal [] = refl
-itself-equal (x ∷ xs) = rw (eq-eqb x x refl) (itself-equal xs)
+-- `equal_lists` says yes exactly of equal lists
+itself_equal : (l : List ℕ) → equal_lists l l ≡ true
+itself_equal [] = refl
+itself_equal (x ∷ xs) = rw (eq-eqb x x refl) (itself_equal xs)
 
-equals : (l l2 : List ℕ) → l ≡ l2 → equalLists l l2 ≡ true
-equals l l2 e = rw e (itself-equal l2)
+equals : (l l2 : List ℕ) → l ≡ l2 → equal_lists l l2 ≡ true
+equals l l2 e = rw e (itself_equal l2)
 
-are-equal : (l l2 : List ℕ) → equalLists l l2 ≡ true → l ≡ l2
-are-equal [] [] e = refl
-are-equal [] (y ∷ ys) e = cc
-are-equal (x ∷ xs) [] e = cc
-are-equal (x ∷ xs) (y ∷ ys) e =
-    let head = eqb-true x y (and_left (eqb x y) (equalLists xs ys) e) in
-    let rest = are-equal xs ys (and_right (eqb x y) (equalLists xs ys) e) in
+are_equal : (l l2 : List ℕ) → equal_lists l l2 ≡ true → l ≡ l2
+are_equal [] [] e = refl
+are_equal [] (y ∷ ys) e = cc
+are_equal (x ∷ xs) [] e = cc
+are_equal (x ∷ xs) (y ∷ ys) e =
+    let head = eqb-true x y (and_left (eqb x y) (equal_lists xs ys) e) in
+    let rest = are_equal xs ys (and_right (eqb x y) (equal_lists xs ys) e) in
     cc
 
 -- The one law between a comparison and the table.
-pub tells-equal : (b : Bool) (l l2 : List ℕ) → Tells b l l2 → equalLists l l2 ≡ b
-tells-equal true l l2 m = equals l l2 (m.yes refl)
-tells-equal false l l2 m = differ (equalLists l l2) refl
+pub tells_equal : (b : Bool) (l l2 : List ℕ) → Tells b l l2 → equal_lists l l2 ≡ b
+tells_equal true l l2 m = equals l l2 (m.yes refl)
+tells_equal false l l2 m = differ (equal_lists l l2) refl
   where
-    differ : (v : Bool) → equalLists l l2 ≡ v → v ≡ false
-    differ true e = absurd (m.no refl (are-equal l l2 e))
+    differ : (v : Bool) → equal_lists l l2 ≡ v → v ≡ false
+    differ true e = absurd (m.no refl (are_equal l l2 e))
     differ false e = refl
 
 -- equal, as the table tells it, or not
-pub equal? : (l l2 : List ℕ) → ((equalLists l l2 ≡ true) × (l ≡ l2)) ⊎ ((equalLists l l2 ≡ false) × (l ≡ l2 → ⊥))
+pub equal? : (l l2 : List ℕ) → ((equal_lists l l2 ≡ true) × (l ≡ l2)) ⊎ ((equal_lists l l2 ≡ false) × (l ≡ l2 → ⊥))
 equal? l l2 = elim (List-discrete ℕ_discrete l l2) [
-  | yes e ↦ inl (tells-equal true l l2 (record { yes = λ z. e; no = λ z. absurd (true≢false z) }), e)
-  | no ne ↦ inr (tells-equal false l l2 (record { yes = λ z. absurd (false≢true z); no = λ z. ne }), ne)
+  | yes e ↦ inl (tells_equal true l l2 (record { yes = λ z. e; no = λ z. absurd (true≢false z) }), e)
+  | no ne ↦ inr (tells_equal false l l2 (record { yes = λ z. absurd (false≢true z); no = λ z. ne }), ne)
 ]
 
 -- a question's answer: 1 or 0, and both as they were
@@ -60,8 +60,8 @@ module _ (k k2 : Kind) (t t2 : Tray) (o : Outcome2) (ok : invalid k t ≡ false)
   asked : (b : Bool) → Tells b (list k t) (list k2 t2) → o ≡ answers t t2 (cond b 1 0) → o ≡ does2 k k2 same t t2
   asked b m eo =
       cc (
-        done2-is k k2 t t2 same ok ok2 tt,
-        tells-equal b (list k t) (list k2 t2) m,
+        done2_is k k2 t t2 same ok ok2 tt,
+        tells_equal b (list k t) (list k2 t2) m,
         eo,
         home,
         home2,
@@ -73,8 +73,8 @@ module _ (k k2 : Kind) (t t2 : Tray) (o : Outcome2) (ok : invalid k t ≡ false)
       )
 
   -- the lengths differ
-  pub longer-done : (t.len ≡ t2.len → ⊥) → o ≡ answers t t2 0 → o ≡ does2 k k2 same t t2
-  longer-done ne eo = asked false (tells-long _ _ (λ e. ne (sym (many k t) ∙ e ∙ many k2 t2))) eo
+  pub longer_done : (t.len ≡ t2.len → ⊥) → o ≡ answers t t2 0 → o ≡ does2 k k2 same t t2
+  longer_done ne eo = asked false (tells_long _ _ (λ e. ne (sym (many k t) ∙ e ∙ many k2 t2))) eo
 
   -- they are one, and so many entries were compared
   module _ (b : Bool) (lens : t.len ≡ t2.len)
@@ -82,8 +82,8 @@ module _ (k k2 : Kind) (t t2 : Tray) (o : Outcome2) (ok : invalid k t ≡ false)
     compared : Tells b (list k t) (list k2 t2)
     compared = subst (λ n. Tells b (list k t) (entries (place k2 (cap t2) t2.head) n t2.slots)) lens m
 
-    pub same-done : b ≡ true → o ≡ answers t t2 1 → o ≡ does2 k k2 same t t2
-    same-done e eo = asked true (rw e at compared) eo
+    pub same_done : b ≡ true → o ≡ answers t t2 1 → o ≡ does2 k k2 same t t2
+    same_done e eo = asked true (rw e at compared) eo
 
-    pub differ-done : b ≡ false → o ≡ answers t t2 0 → o ≡ does2 k k2 same t t2
-    differ-done e eo = asked false (rw e at compared) eo
+    pub differ_done : b ≡ false → o ≡ answers t t2 0 → o ≡ does2 k k2 same t t2
+    differ_done e eo = asked false (rw e at compared) eo

@@ -11,51 +11,51 @@ use lib.ListN.{get_or}
 use Rattle.slots.specs.Layout.{most, Kind, vector, place}
 use Rattle.table.specs.Tray.{Tray, cap, list, invalid, Cursor}
 use Rattle.table.specs.Calls.{Look, look, len, is_empty, read, reserve, range, iter}
-use Rattle.table.specs.Table.{lookRow}
+use Rattle.table.specs.Table.{look_row}
 use Rattle.table.specs.Does.{Outcome, gives, row_of, does}
 use Rattle.table.proofs.Laws.Refusals.{Clear, inside}
 use Rattle.table.proofs.Laws.Valid.{fit}
-use Rattle.table.proofs.Laws.Done.{Homed, done-is, many, still, at, as_it_was}
+use Rattle.table.proofs.Laws.Done.{Homed, done_is, many, still, at, as_it_was}
 
 -- the container as it was, with this value and cursor
 abbrev pub shows : Tray → (value : ℕ) → Cursor → Outcome
 shows t value u = record { number = 0; value = value; moves = 0; tray = record { head = t.head; len = t.len; slots = t.slots }; cursor = u }
 
 module _ (k : Kind) (t : Tray) (o : Outcome) (ok : invalid k t ≡ false) (home : Homed k t) where
-  pub look-done : (q : Look) → Clear (row_of k (look q) t).refusals
-      → o ≡ shows t (lookRow (cap t) t.len (list k t) q).value (lookRow (cap t) t.len (list k t) q).cursor → o ≡ does k (look q) t
-  look-done q clear eo =
-      cc (eo, home, done-is k t (look q) ok clear, many k t, still k t, as_it_was k t ok)
+  pub look_done : (q : Look) → Clear (row_of k (look q) t).refusals
+      → o ≡ shows t (look_row (cap t) t.len (list k t) q).value (look_row (cap t) t.len (list k t) q).cursor → o ≡ does k (look q) t
+  look_done q clear eo =
+      cc (eo, home, done_is k t (look q) ok clear, many k t, still k t, as_it_was k t ok)
 
   -- the length as one of the m numbers that an entry can be, which are enough whatever its width
   pub len-done : (value m : ℕ) → value ≡ t.len % m → ltb most m ≡ true → o ≡ gives value 0 t.head t.len t.slots → o ≡ does k (look len) t
   len-done value m ev wide eo =
       let f = fit k t ok in
       let all : value ≡ t.len = ev ∙ mod-eq_of_lt (omega (arith, ltb-true most m wide)) in
-      look-done len tt (rw all at eo)
+      look_done len tt (rw all at eo)
 
   pub read_done : (i s : ℕ) → i < t.len → s ≡ place k (cap t) t.head i
       → o ≡ gives (get_or t.slots s 0) 0 t.head t.len t.slots → o ≡ does k (look (read i)) t
-  read_done i s h es eo = look-done (read i) (lt-leb _ _ h, tt) (rw (at k t i s h es) eo)
+  read_done i s h es eo = look_done (read i) (lt-leb _ _ h, tt) (rw (at k t i s h es) eo)
 
   -- a yes and a no
-  pub empty-done : t.len ≡ 0 → o ≡ gives 1 0 t.head t.len t.slots → o ≡ does k (look is_empty) t
-  empty-done e eo = look-done is_empty tt (rw (eq-eqb t.len 0 e) eo)
+  pub empty_done : t.len ≡ 0 → o ≡ gives 1 0 t.head t.len t.slots → o ≡ does k (look is_empty) t
+  empty_done e eo = look_done is_empty tt (rw (eq-eqb t.len 0 e) eo)
 
-  pub filled-done : (t.len ≡ 0 → ⊥) → o ≡ gives 0 0 t.head t.len t.slots → o ≡ does k (look is_empty) t
-  filled-done ne eo = look-done is_empty tt (rw (ne_eqb t.len 0 ne) eo)
+  pub filled_done : (t.len ≡ 0 → ⊥) → o ≡ gives 0 0 t.head t.len t.slots → o ≡ does k (look is_empty) t
+  filled_done ne eo = look_done is_empty tt (rw (ne_eqb t.len 0 ne) eo)
 
   -- room for m more
-  pub reserve-done : (m : ℕ) → m ≤ cap t - t.len → o ≡ gives 0 0 t.head t.len t.slots → o ≡ does k (look (reserve m)) t
-  reserve-done m room eo = look-done (reserve m) (le-ltb _ _ room, tt) eo
+  pub reserve_done : (m : ℕ) → m ≤ cap t - t.len → o ≡ gives 0 0 t.head t.len t.slots → o ≡ does k (look (reserve m)) t
+  reserve_done m room eo = look_done (reserve m) (le-ltb _ _ room, tt) eo
 
-  pub range-done : (a b : ℕ) → a ≤ b → b ≤ t.len → o ≡ gives 0 0 t.head t.len t.slots → o ≡ does k (look (range a b)) t
-  range-done a b le fits eo = look-done (range a b) (inside a b t.len le fits, tt) eo
+  pub range_done : (a b : ℕ) → a ≤ b → b ≤ t.len → o ≡ gives 0 0 t.head t.len t.slots → o ≡ does k (look (range a b)) t
+  range_done a b le fits eo = look_done (range a b) (inside a b t.len le fits, tt) eo
 
-  pub iter-done : o ≡ shows t 0 (record { front = 0; back = t.len }) → o ≡ does k (look iter) t
-  iter-done eo = look-done iter tt eo
+  pub iter_done : o ≡ shows t 0 (record { front = 0; back = t.len }) → o ≡ does k (look iter) t
+  iter_done eo = look_done iter tt eo
 
 -- A vector's position is its slot.
-pub vector-read-done : (t : Tray) (o : Outcome) → invalid vector t ≡ false → Homed vector t → (i : ℕ) → i < t.len
+pub vector_read_done : (t : Tray) (o : Outcome) → invalid vector t ≡ false → Homed vector t → (i : ℕ) → i < t.len
     → o ≡ gives (get_or t.slots i 0) 0 t.head t.len t.slots → o ≡ does vector (look (read i)) t
-vector-read-done t o ok home i h eo = read_done vector t o ok home i i h refl eo
+vector_read_done t o ok home i h eo = read_done vector t o ok home i i h refl eo

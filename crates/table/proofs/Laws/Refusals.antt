@@ -7,9 +7,9 @@ use mathlib.Core.List.{List, [], ◌∷◌}
 use native.Mathlib.Omega.{arith}
 use borrow.Author.Tests.{eq-eqb, ne_eqb, le-leb, lt-leb, lt-ltb, le-ltb, leb-false, ltb-false, eqb-false}
 use Rattle.table.specs.Tray.{within}
-use Rattle.table.specs.Table.{Refusal, firstInvalid, secondInvalid, beyond, empty, taken, full, number_of}
-use Rattle.table.specs.Does.{firstRefusal}
-use Rattle.table.specs.Ledger.{ifDone}
+use Rattle.table.specs.Table.{Refusal, first_invalid, second_invalid, beyond, empty, taken, full, number_of}
+use Rattle.table.specs.Does.{first_refusal}
+use Rattle.table.specs.Ledger.{if_done}
 
 module _ {A : Type 0} where
   pub hit : (x r o : A) (p : Bool) → p ≡ true → x ≡ r → x ≡ cond p r o
@@ -22,30 +22,30 @@ module _ {A : Type 0} where
 pub flag : (b p v : Bool) → b ≡ p → b ≡ v → p ≡ v
 flag b p v e f = sym e ∙ f
 
-pub not-holds : (b : Bool) → b ≡ false → not b ≡ true
-not-holds b e = rw e
+pub not_holds : (b : Bool) → b ≡ false → not b ≡ true
+not_holds b e = rw e
 
-pub not-fails : (b : Bool) → b ≡ true → not b ≡ false
-not-fails b e = rw e
+pub not_fails : (b : Bool) → b ≡ true → not b ≡ false
+not_fails b e = rw e
 
 -- a test of two halves, as `within`, that the code makes in two steps
 pub both_hold : (a b : Bool) → a ≡ true → b ≡ true → a && b ≡ true
 both_hold a b p q = rw (p, q)
 
-pub left-fails : (a b : Bool) → a ≡ false → a && b ≡ false
-left-fails a b p = rw p
+pub left_fails : (a b : Bool) → a ≡ false → a && b ≡ false
+left_fails a b p = rw p
 
-pub right-fails : (a b : Bool) → b ≡ false → a && b ≡ false
-right-fails true b p = p
-right-fails false b p = refl
+pub right_fails : (a b : Bool) → b ≡ false → a && b ≡ false
+right_fails true b p = p
+right_fails false b p = refl
 
 -- what the code's tests tell of the tests that a promise names
-pub ruleset tests = (flag, not-holds, not-fails, both_hold, left-fails, right-fails, eq-eqb, ne_eqb, le-leb, lt-leb, lt-ltb, le-ltb)
+pub ruleset tests = (flag, not_holds, not_fails, both_hold, left_fails, right_fails, eq-eqb, ne_eqb, le-leb, lt-leb, lt-ltb, le-ltb)
 
 pub ruleset refusals = (hit, skip, tests)
 
 -- what the refusals that do not apply tell `omega`
-pub ruleset passed-tests = (arith, leb-false, ltb-false, eqb-false)
+pub ruleset passed_tests = (arith, leb-false, ltb-false, eqb-false)
 
 -- a ≤ b ≤ n
 pub inside : (a b n : ℕ) → a ≤ b → b ≤ n → not (within a b n) ≡ false
@@ -57,68 +57,68 @@ Clear [] = Unit {0}
 Clear (r ∷ rest) = (r.0 ≡ false) × Clear rest
 
 -- where none does, the call is done
-pub clear_of : {A : Type 0} (refuse : ℕ → A) (rs : List (Bool × Refusal)) (done : A) → Clear rs → firstRefusal refuse rs done ≡ done
+pub clear_of : {A : Type 0} (refuse : ℕ → A) (rs : List (Bool × Refusal)) (done : A) → Clear rs → first_refusal refuse rs done ≡ done
 clear_of refuse [] done c = refl
 clear_of refuse (r ∷ rest) done c = rw c.0 (clear_of refuse rest done c.1)
 
 -- What holds of each refusal, and of what is done where none applies, holds.
 pub either : {A : Type 0} (P : A → Type 0) (refuse : ℕ → A) (rs : List (Bool × Refusal)) (done : A)
-    → ((r : Refusal) → P (refuse (number_of r))) → (Clear rs → P done) → P (firstRefusal refuse rs done)
+    → ((r : Refusal) → P (refuse (number_of r))) → (Clear rs → P done) → P (first_refusal refuse rs done)
 either P refuse [] done bad good = good tt
 either P refuse (r ∷ rest) done bad good = go r.0 refl (λ e. either P refuse rest done bad (λ clear. good (e, clear)))
   where
-    go : (t : Bool) → r.0 ≡ t → (r.0 ≡ false → P (firstRefusal refuse rest done)) → P (cond t (refuse (number_of r.1)) (firstRefusal refuse rest done))
+    go : (t : Bool) → r.0 ≡ t → (r.0 ≡ false → P (first_refusal refuse rest done)) → P (cond t (refuse (number_of r.1)) (first_refusal refuse rest done))
     go true e more = bad r.1
     go false e more = more e
 
-pub if-refused : {A : Type 0} (r : Refusal) (f g : A) → ifDone (number_of r) f g ≡ g
-if-refused firstInvalid f g = refl
-if-refused secondInvalid f g = refl
-if-refused beyond f g = refl
-if-refused empty f g = refl
-if-refused taken f g = refl
-if-refused full f g = refl
+pub if_refused : {A : Type 0} (r : Refusal) (f g : A) → if_done (number_of r) f g ≡ g
+if_refused first_invalid f g = refl
+if_refused second_invalid f g = refl
+if_refused beyond f g = refl
+if_refused empty f g = refl
+if_refused taken f g = refl
+if_refused full f g = refl
 
 pub above_zero : (r : Refusal) → 0 < number_of r
-above_zero firstInvalid = omega arith
-above_zero secondInvalid = omega arith
+above_zero first_invalid = omega arith
+above_zero second_invalid = omega arith
 above_zero beyond = omega arith
 above_zero empty = omega arith
 above_zero taken = omega arith
 above_zero full = omega arith
 
-pub below-16 : (r : Refusal) → number_of r < 16
-below-16 firstInvalid = omega arith
-below-16 secondInvalid = omega arith
-below-16 beyond = omega arith
-below-16 empty = omega arith
-below-16 taken = omega arith
-below-16 full = omega arith
+pub below_16 : (r : Refusal) → number_of r < 16
+below_16 first_invalid = omega arith
+below_16 second_invalid = omega arith
+below_16 beyond = omega arith
+below_16 empty = omega arith
+below_16 taken = omega arith
+below_16 full = omega arith
 
 -- the number of the first refusal that applies; 0 where none does
-abbrev pub firstNumber : List (Bool × Refusal) → ℕ
-firstNumber rs = firstRefusal (λ m. m) rs 0
+abbrev pub first_number : List (Bool × Refusal) → ℕ
+first_number rs = first_refusal (λ m. m) rs 0
 
 -- Where a refusal shows its number, and what is done 0, the number that is seen tells which of the two it is.
 pub record Settled {A : Type 0} (number : A → ℕ) (refuse : ℕ → A) (rs : List (Bool × Refusal)) (done o : A) : Type 0 where
-  pub first : number o ≡ firstNumber rs
+  pub first : number o ≡ first_number rs
   pub refused : (m : ℕ) → number o ≡ suc m → o ≡ refuse (suc m)
   pub clear : number o ≡ 0 → Clear rs
   pub otherwise : Clear rs → o ≡ done
 
 module _ {A : Type 0} (number : A → ℕ) (refuse : ℕ → A) (done : A) (told : (m : ℕ) → number (refuse m) ≡ m) (nought : number done ≡ 0) where
-  number-of : (rs : List (Bool × Refusal)) → number (firstRefusal refuse rs done) ≡ firstNumber rs
-  number-of [] = nought
-  number-of (r ∷ rest) = go r.0 (number-of rest)
+  number_of_law : (rs : List (Bool × Refusal)) → number (first_refusal refuse rs done) ≡ first_number rs
+  number_of_law [] = nought
+  number_of_law (r ∷ rest) = go r.0 (number_of_law rest)
     where
-      go : (b : Bool) → number (firstRefusal refuse rest done) ≡ firstNumber rest
-          → number (cond b (refuse (number_of r.1)) (firstRefusal refuse rest done)) ≡ cond b (number_of r.1) (firstNumber rest)
+      go : (b : Bool) → number (first_refusal refuse rest done) ≡ first_number rest
+          → number (cond b (refuse (number_of r.1)) (first_refusal refuse rest done)) ≡ cond b (number_of r.1) (first_number rest)
       go true e = told (number_of r.1)
       go false e = e
 
-  pub settled : (rs : List (Bool × Refusal)) → Settled number refuse rs done (firstRefusal refuse rs done)
+  pub settled : (rs : List (Bool × Refusal)) → Settled number refuse rs done (first_refusal refuse rs done)
   settled rs = record {
-    first = number-of rs;
+    first = number_of_law rs;
     refused = λ m.
         either (λ o. number o ≡ suc m → o ≡ refuse (suc m)) refuse rs done
         (λ r e. ap refuse (sym (told (number_of r)) ∙ e))

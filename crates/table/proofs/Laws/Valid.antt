@@ -26,29 +26,29 @@ pub and_right : (a b : Bool) → a && b ≡ true → b ≡ true
 and_right true b e = e
 and_right false b e = let x : b ≡ true = cc in x
 
-head-inside : (c h : ℕ) (l : Bool) → ltb h c ≡ l → l || (eqb c 0 && eqb h 0) ≡ true → h ≤ c - 1
-head-inside c h true e q = omega (arith, ltb-true h c e)
-head-inside c h false e q = omega (arith, eqb-true h 0 (and_right (eqb c 0) _ q))
+head_inside : (c h : ℕ) (l : Bool) → ltb h c ≡ l → l || (eqb c 0 && eqb h 0) ≡ true → h ≤ c - 1
+head_inside c h true e q = omega (arith, ltb-true h c e)
+head_inside c h false e q = omega (arith, eqb-true h 0 (and_right (eqb c 0) _ q))
 
 at_home : (h n : ℕ) → ltb 0 n || eqb h 0 ≡ true → n ≡ 0 → h ≡ 0
 at_home h n q e = eqb-true h 0 (rw (le-ltb 0 n (omega arith)) at q)
 
-pub ring-facts : (c h n : ℕ) → not (valid ring c h n) ≡ false → Valid c h n
+pub ring_facts : (c h n : ℕ) → not (valid ring c h n) ≡ false → Valid c h n
 unfolding valid
-ring-facts c h n ok =
+ring_facts c h n ok =
     let e = not-false (valid ring c h n) ok in
     let rest = and_right (leb c 4096) _ e in
     let heads = and_right (leb n c) _ rest in
     record {
       small = leb-true c 4096 (and_left _ _ e);
       fits = leb-true n c (and_left _ _ rest);
-      inside = head-inside c h _ refl (and_left _ _ heads);
+      inside = head_inside c h _ refl (and_left _ _ heads);
       home = at_home h n (and_right (ltb h c || (eqb c 0 && eqb h 0)) _ heads);
     }
 
-pub vector-facts : (c n : ℕ) → not (valid vector c 0 n) ≡ false → Valid c 0 n
+pub vector_facts : (c n : ℕ) → not (valid vector c 0 n) ≡ false → Valid c 0 n
 unfolding valid
-vector-facts c n ok =
+vector_facts c n ok =
     let e = not-false (valid vector c 0 n) ok in
     record { small = leb-true c 4096 (and_right (leb n c) _ e); fits = leb-true n c (and_left _ _ e); inside = omega arith; home = λ none. refl }
 
@@ -60,11 +60,11 @@ pub record Fit (k : Kind) (t : Tray) : Type 0 where
 
 pub fit : (k : Kind) (t : Tray) → invalid k t ≡ false → Fit k t
 unfolding valid
-fit ring t ok = let v = ring-facts (cap t) t.head t.len ok in record { small = v.small; fits = v.fits; placed = placing ring _ _ v.inside }
-fit vector t ok = let v = vector-facts (cap t) t.len ok in record { small = v.small; fits = v.fits; placed = placing vector _ 0 (omega arith) }
+fit ring t ok = let v = ring_facts (cap t) t.head t.len ok in record { small = v.small; fits = v.fits; placed = placing ring _ _ v.inside }
+fit vector t ok = let v = vector_facts (cap t) t.len ok in record { small = v.small; fits = v.fits; placed = placing vector _ 0 (omega arith) }
 
-pub ring-inside : (t : Tray) → invalid ring t ≡ false → 0 < cap t → t.head < cap t
-ring-inside t ok some = omega (arith, ring-facts (cap t) t.head t.len ok)
+pub ring_inside : (t : Tray) → invalid ring t ≡ false → 0 < cap t → t.head < cap t
+ring_inside t ok some = omega (arith, ring_facts (cap t) t.head t.len ok)
 
 -- a bound behind a gate, and the rule by which `omega` passes the gate of a flag that is false
 pub gated : (b : Bool) (x y : ℕ) → x < 2 ^ 64 → (b ≡ false → x ≤ y) → x ≤ y + gate b

@@ -9,17 +9,17 @@ use native.Mathlib.Omega.{arith}
 use lib.ListN.{length, set, length-set, length-append, get_or-append}
 use lib.Seq.{get_or-set_same, get_or-set_other, get_or_at}
 use Rattle.slots.specs.Layout.{Kind}
-use Rattle.slots.proofs.Relaid.{length-relaid}
+use Rattle.slots.proofs.Relaid.{length_relaid}
 use Rattle.slots.proofs.Words.{same?}
 use Rattle.table.specs.Tray.{Tray, cap, list, nowhere}
 use Rattle.table.specs.Calls.{Call, Call2, Making}
 use Rattle.table.specs.Table.{after, after2, begins, makes}
-use Rattle.table.specs.Does.{Outcome, refused, done, row_of, refusalsOf, does, bare, refusalsMade, made}
-use Rattle.table.specs.Does.{Outcome2, refused2, done2, rowOf2, refusalsOf2, does2}
+use Rattle.table.specs.Does.{Outcome, refused, done, row_of, refusals_of, does, bare, refusals_made, made}
+use Rattle.table.specs.Does.{Outcome2, refused2, done2, row_of2, refusals_of2, does2}
 use Rattle.table.specs.Promise.{Promise, Promise2, Arrival, promise, promise2, arrival, showing}
-use Rattle.table.specs.Within.{doesWithin}
-use Rattle.table.specs.PromiseWithin.{promiseWithin}
-use Rattle.table.specs.World.{Container, World, at, Event, arrived, called, calledTwo, Ours, step, AllOurs, run}
+use Rattle.table.specs.Within.{does_within}
+use Rattle.table.specs.PromiseWithin.{promise_within}
+use Rattle.table.specs.World.{Container, World, at, Event, arrived, called, called_two, Ours, step, AllOurs, run}
 use Rattle.table.proofs.Laws.Refusals.{either}
 use Rattle.table.proofs.Theorems.Within.{each_way}
 
@@ -34,47 +34,47 @@ pub record SizedMade (a : Arrival) : Type 0 where
   pub same : (k : Kind) (slots : List ℕ) → cap (a.makes k slots).tray ≡ length slots
 
 -- PAPER 01'S CALLS are such, all of them
-pub call-sized : (call : Call) → Sized (promise call)
+pub call_sized : (call : Call) → Sized (promise call)
 unfolding does
-call-sized call = record {
+call_sized call = record {
   same = λ k t.
-      either (λ (o : Outcome). cap o.tray ≡ cap t) (refused t (row_of k call t).given) (refusalsOf k call t) (done k t (after call (list k t)) (row_of k call t))
+      either (λ (o : Outcome). cap o.tray ≡ cap t) (refused t (row_of k call t).given) (refusals_of k call t) (done k t (after call (list k t)) (row_of k call t))
       (λ r. refl)
-      (λ clear. length-relaid _ _ _ _ _);
+      (λ clear. length_relaid _ _ _ _ _);
 }
 
 pub two_sized : (call : Call2) → Sized2 (promise2 call)
 unfolding does2
 two_sized call = record {
   same = λ k k2 t t2.
-      either (λ (o : Outcome2). (cap o.first ≡ cap t) × (cap o.second ≡ cap t2)) (refused2 t t2 (rowOf2 k k2 call t t2).given) (refusalsOf2 k k2 call t t2)
-      (done2 k k2 t t2 (after2 call (list k t) (list k2 t2)) (rowOf2 k k2 call t t2))
+      either (λ (o : Outcome2). (cap o.first ≡ cap t) × (cap o.second ≡ cap t2)) (refused2 t t2 (row_of2 k k2 call t t2).given) (refusals_of2 k k2 call t t2)
+      (done2 k k2 t t2 (after2 call (list k t) (list k2 t2)) (row_of2 k k2 call t t2))
       (λ r. (refl, refl))
-      (λ clear. (length-relaid _ _ _ _ _, length-relaid _ _ _ _ _));
+      (λ clear. (length_relaid _ _ _ _ _, length_relaid _ _ _ _ _));
 }
 
-pub making-sized : (m : Making) → SizedMade (arrival m)
+pub making_sized : (m : Making) → SizedMade (arrival m)
 unfolding made
-making-sized m = record {
+making_sized m = record {
   same = λ k slots.
-      either (λ (o : Outcome). cap o.tray ≡ length slots) (refused (bare slots) nowhere) (refusalsMade m slots) (done k (bare slots) (begins m) (makes (length slots) m))
+      either (λ (o : Outcome). cap o.tray ≡ length slots) (refused (bare slots) nowhere) (refusals_made m slots) (done k (bare slots) (begins m) (makes (length slots) m))
       (λ r. refl)
-      (λ clear. length-relaid _ _ _ _ _);
+      (λ clear. length_relaid _ _ _ _ _);
 }
 
 -- and each with an allowance, and one that leaves everything as it was
-pub within-sized : (a : ℕ) (call : Call) → Sized (promiseWithin a call)
-unfolding doesWithin
-within-sized a call = record { same = λ k t. each_way (λ (o : Outcome). cap o.tray ≡ cap t) a k call t (λ more. refl) (λ less. (call-sized call).same k t) }
+pub within_sized : (a : ℕ) (call : Call) → Sized (promise_within a call)
+unfolding does_within
+within_sized a call = record { same = λ k t. each_way (λ (o : Outcome). cap o.tray ≡ cap t) a k call t (λ more. refl) (λ less. (call_sized call).same k t) }
 
-pub showing-sized : (has : Kind → Bool) (does : Kind → Tray → Outcome) → ((k : Kind) (t : Tray) → (does k t).tray ≡ t) → Sized (showing has does)
-showing-sized has does same = record { same = λ k t. ap cap (same k t) }
+pub showing_sized : (has : Kind → Bool) (does : Kind → Tray → Outcome) → ((k : Kind) (t : Tray) → (does k t).tray ≡ t) → Sized (showing has does)
+showing_sized has does same = record { same = λ k t. ap cap (same k t) }
 
 -- a sequence of such
 abbrev pub Sizing : Event → Type 0
 Sizing (arrived k a slots o) = SizedMade a
 Sizing (called i p o) = Sized p
-Sizing (calledTwo i j p o) = Sized2 p
+Sizing (called_two i j p o) = Sized2 p
 
 abbrev pub AllSizing : List Event → Type 0
 AllSizing [] = Unit {0}
@@ -102,8 +102,8 @@ stands_set w i k c j b s fits =
     (same? i j)
 
 -- EACH EVENT leaves it so
-pub stands-step : (w : World) (e : Event) (i : ℕ) (k : Kind) (c : ℕ) → Stands w i k c → Ours w e → Sizing e → Stands (step w e) i k c
-stands-step w (arrived k' a slots o) i k c s our sized =
+pub stands_step : (w : World) (e : Event) (i : ℕ) (k : Kind) (c : ℕ) → Stands w i k c → Ours w e → Sizing e → Stands (step w e) i k c
+stands_step w (arrived k' a slots o) i k c s our sized =
     let b : Container = record { kind = k'; tray = o.tray } in
     let is : at (w ++ (b ∷ [])) i ≡ at w i = get_or-append w (b ∷ []) _ i s.there in
     record {
@@ -111,10 +111,10 @@ stands-step w (arrived k' a slots o) i k c s our sized =
       kind = ap (λ (b : Container). b.kind) is ∙ s.kind;
       slots = ap (λ (b : Container). cap b.tray) is ∙ s.slots;
     }
-stands-step w (called j p o) i k c s our sized =
+stands_step w (called j p o) i k c s our sized =
     stands_set w i k c j _ s
     (λ e. (ap (λ j. (at w j).kind) (sym e) ∙ s.kind, ap (λ (o : Outcome). cap o.tray) our.2 ∙ sized.same _ _ ∙ ap (λ j. cap (at w j).tray) (sym e) ∙ s.slots))
-stands-step w (calledTwo j l p o) i k c s our sized =
+stands_step w (called_two j l p o) i k c s our sized =
     let b : Container = record { kind = (at w j).kind; tray = o.first } in
     let apart : at (set w j b) l ≡ at w l = get_or-set_other w j l b _ (λ e. our.2 (sym e)) in
     let first : Stands (set w j b) i k c =
@@ -127,14 +127,14 @@ stands-step w (calledTwo j l p o) i k c s our sized =
     ))
 
 -- AFTER ANY SEQUENCE it is of the same kind and has the same slots.
-pub still-stands : (w : World) (es : List Event) (i : ℕ) (k : Kind) (c : ℕ) → Stands w i k c → AllOurs w es → AllSizing es → Stands (run w es) i k c
-still-stands w [] i k c s ours sized = s
-still-stands w (e ∷ es) i k c s ours sized = still-stands (step w e) es i k c (stands-step w e i k c s ours.0 sized.0) ours.1 sized.1
+pub still_stands : (w : World) (es : List Event) (i : ℕ) (k : Kind) (c : ℕ) → Stands w i k c → AllOurs w es → AllSizing es → Stands (run w es) i k c
+still_stands w [] i k c s ours sized = s
+still_stands w (e ∷ es) i k c s ours sized = still_stands (step w e) es i k c (stands_step w e i k c s ours.0 sized.0) ours.1 sized.1
 
 -- and so from its making on
-pub made-stands : (w : World) (k : Kind) (a : Arrival) (slots : List ℕ) (o : Outcome) → Ours w (arrived k a slots o) → SizedMade a
+pub made_stands : (w : World) (k : Kind) (a : Arrival) (slots : List ℕ) (o : Outcome) → Ours w (arrived k a slots o) → SizedMade a
     → Stands (step w (arrived k a slots o)) (length w) k (length slots)
-made-stands w k a slots o our sized =
+made_stands w k a slots o our sized =
     let b : Container = record { kind = k; tray = o.tray } in
     let is : at (w ++ (b ∷ [])) (length w) ≡ b = get_or_at w b [] _ (length w) refl in
     record {

@@ -5,54 +5,54 @@ use mathlib.Core.Bool.{Bool, true, ◌&&◌}
 use mathlib.Core.List.{List, [], ◌∷◌}
 use Prim.Native.Nat.{ℕ}
 use lib.Dec.{leb}
-use Rattle.table.specs.Calls.{Look, len, is_empty, read, reserve, tryReserve, tryReserveExact, range, iter, intoIter, stepFront, stepBack, peekFront, peekBack}
-use Rattle.table.specs.Calls.{Call, push, pushFront, pop, popFront, insert, remove, swapRemove, write, truncate, resize, clear, extend, look}
-use Rattle.table.specs.Calls.{Call2, append, splitOff, clone, fromIter, same, Making, new, withCapacity, fromElem}
-use Rattle.table.specs.Table.{Refusal, number_of, row, lookRow, row2, makes}
+use Rattle.table.specs.Calls.{Look, len, is_empty, read, reserve, try_reserve, try_reserve_exact, range, iter, into_iter, step_front, step_back, peek_front, peek_back}
+use Rattle.table.specs.Calls.{Call, push, push_front, pop, pop_front, insert, remove, swap_remove, write, truncate, resize, clear, extend, look}
+use Rattle.table.specs.Calls.{Call2, append, split_off, clone, from_iter, same, Making, new, with_capacity, from_elem}
+use Rattle.table.specs.Table.{Refusal, number_of, row, look_row, row2, makes}
 
 -- no number of the list is below m, nor below one before it
 abbrev pub rising : (m : ℕ) → List (Bool × Refusal) → Bool
 rising m [] = true
 rising m (r ∷ rest) = leb m (number_of r.1) && rising (number_of r.1) rest
 
-pub look-rising : (c n : ℕ) (l : List ℕ) (k : Look) → rising 1 (lookRow c n l k).refusals ≡ true
-look-rising c n l len = refl
-look-rising c n l is_empty = refl
-look-rising c n l (read i) = refl
-look-rising c n l (reserve k) = refl
-look-rising c n l (tryReserve k) = refl
-look-rising c n l (tryReserveExact k) = refl
-look-rising c n l (range a b) = refl
-look-rising c n l iter = refl
-look-rising c n l intoIter = refl
-look-rising c n l (stepFront u) = refl
-look-rising c n l (stepBack u) = refl
-look-rising c n l (peekFront u k) = refl
-look-rising c n l (peekBack u k) = refl
+pub look_rising : (c n : ℕ) (l : List ℕ) (k : Look) → rising 1 (look_row c n l k).refusals ≡ true
+look_rising c n l len = refl
+look_rising c n l is_empty = refl
+look_rising c n l (read i) = refl
+look_rising c n l (reserve k) = refl
+look_rising c n l (try_reserve k) = refl
+look_rising c n l (try_reserve_exact k) = refl
+look_rising c n l (range a b) = refl
+look_rising c n l iter = refl
+look_rising c n l into_iter = refl
+look_rising c n l (step_front u) = refl
+look_rising c n l (step_back u) = refl
+look_rising c n l (peek_front u k) = refl
+look_rising c n l (peek_back u k) = refl
 
-pub row-rising : (c h n : ℕ) (l : List ℕ) (call : Call) → rising 1 (row c h n l call).refusals ≡ true
-row-rising c h n l (push x) = refl
-row-rising c h n l (pushFront x) = refl
-row-rising c h n l pop = refl
-row-rising c h n l popFront = refl
-row-rising c h n l (insert i x) = refl
-row-rising c h n l (remove i) = refl
-row-rising c h n l (swapRemove i) = refl
-row-rising c h n l (write i x) = refl
-row-rising c h n l (truncate k) = refl
-row-rising c h n l (resize k x) = refl
-row-rising c h n l clear = refl
-row-rising c h n l (extend s) = refl
-row-rising c h n l (look k) = look-rising c n l k
+pub row_rising : (c h n : ℕ) (l : List ℕ) (call : Call) → rising 1 (row c h n l call).refusals ≡ true
+row_rising c h n l (push x) = refl
+row_rising c h n l (push_front x) = refl
+row_rising c h n l pop = refl
+row_rising c h n l pop_front = refl
+row_rising c h n l (insert i x) = refl
+row_rising c h n l (remove i) = refl
+row_rising c h n l (swap_remove i) = refl
+row_rising c h n l (write i x) = refl
+row_rising c h n l (truncate k) = refl
+row_rising c h n l (resize k x) = refl
+row_rising c h n l clear = refl
+row_rising c h n l (extend s) = refl
+row_rising c h n l (look k) = look_rising c n l k
 
-pub made-rising : (c : ℕ) (m : Making) → rising 1 (makes c m).refusals ≡ true
-made-rising c new = refl
-made-rising c (withCapacity k) = refl
-made-rising c (fromElem k x) = refl
+pub made_rising : (c : ℕ) (m : Making) → rising 1 (makes c m).refusals ≡ true
+made_rising c new = refl
+made_rising c (with_capacity k) = refl
+made_rising c (from_elem k x) = refl
 
-pub row2-rising : (c h n : ℕ) (l : List ℕ) (c2 h2 n2 : ℕ) (l2 : List ℕ) (call : Call2) → rising 2 (row2 c h n l c2 h2 n2 l2 call).refusals ≡ true
-row2-rising c h n l c2 h2 n2 l2 append = refl
-row2-rising c h n l c2 h2 n2 l2 (splitOff at) = refl
-row2-rising c h n l c2 h2 n2 l2 clone = refl
-row2-rising c h n l c2 h2 n2 l2 (fromIter u) = refl
-row2-rising c h n l c2 h2 n2 l2 same = refl
+pub row2_rising : (c h n : ℕ) (l : List ℕ) (c2 h2 n2 : ℕ) (l2 : List ℕ) (call : Call2) → rising 2 (row2 c h n l c2 h2 n2 l2 call).refusals ≡ true
+row2_rising c h n l c2 h2 n2 l2 append = refl
+row2_rising c h n l c2 h2 n2 l2 (split_off at) = refl
+row2_rising c h n l c2 h2 n2 l2 clone = refl
+row2_rising c h n l c2 h2 n2 l2 (from_iter u) = refl
+row2_rising c h n l c2 h2 n2 l2 same = refl

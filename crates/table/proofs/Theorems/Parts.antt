@@ -16,7 +16,7 @@ use Rattle.table.specs.Tray.{Tray, cap, list, invalid, within}
 use Rattle.table.specs.Calls.{look, range}
 use Rattle.table.specs.Numbers.{Astray}
 use Rattle.table.specs.Does.{does}
-use Rattle.table.specs.Parts.{Part, no_part, lends, lendsAll, inPart}
+use Rattle.table.specs.Parts.{Part, no_part, lends, lends_all, in_part}
 use Rattle.table.proofs.Laws.Refusals.{inside}
 use Rattle.table.proofs.Laws.Valid.{fit, and_left, and_right}
 use Rattle.table.proofs.Laws.Done.{many, at}
@@ -45,28 +45,28 @@ or_right true q e = refl
 or_right false q e = e
 
 -- two lists with the same numbers in a run have the same part
-same-part : (xs ys : List ℕ) (a m : ℕ) → a + m ≤ length xs → a + m ≤ length ys → ((j : ℕ) → j < a + m → get_or xs j 0 ≡ get_or ys j 0)
+same_part : (xs ys : List ℕ) (a m : ℕ) → a + m ≤ length xs → a + m ≤ length ys → ((j : ℕ) → j < a + m → get_or xs j 0 ≡ get_or ys j 0)
     → take m (drop a xs) ≡ take m (drop a ys)
-same-part xs ys a m fx fy e =
+same_part xs ys a m fx fy e =
     ext_get_or 0 _ _ (many xs fx ∙ sym (many ys fy)) (λ i h. let lt : i < m = omega (arith, many xs fx) in
-    in-part xs i lt ∙ e (a + i) (omega arith) ∙ sym (in-part ys i lt))
+    in_part_law xs i lt ∙ e (a + i) (omega arith) ∙ sym (in_part_law ys i lt))
   where
     many : (zs : List ℕ) → a + m ≤ length zs → length (take m (drop a zs)) ≡ m
     many zs f = simp (length-take, length-drop) (omega arith)
 
-    in-part : (zs : List ℕ) (i : ℕ) → i < m → get_or (take m (drop a zs)) i 0 ≡ get_or zs (a + i) 0
-    in-part zs i h = get_or-take m (drop a zs) i 0 h ∙ get_or-drop a zs i 0
+    in_part_law : (zs : List ℕ) (i : ℕ) → i < m → get_or (take m (drop a zs)) i 0 ≡ get_or zs (a + i) 0
+    in_part_law zs i h = get_or-take m (drop a zs) i 0 h ∙ get_or-drop a zs i 0
 
 -- What is lent, by the tests that tell it.
 module _ (t : Tray) (a b : ℕ) where
-  pub lends-asked : invalid vector t ≡ false → a ≤ b → b ≤ t.len → lends a b t ≡ asked a b
-  lends-asked ok le fits = rw (ok, inside a b t.len le fits)
+  pub lends_asked : invalid vector t ≡ false → a ≤ b → b ≤ t.len → lends a b t ≡ asked a b
+  lends_asked ok le fits = rw (ok, inside a b t.len le fits)
 
-  pub lends-invalid : invalid vector t ≡ true → lends a b t ≡ no_part
-  lends-invalid bad = rw bad
+  pub lends_invalid : invalid vector t ≡ true → lends a b t ≡ no_part
+  lends_invalid bad = rw bad
 
-  pub lends-astray : Astray a b t.len → lends a b t ≡ no_part
-  lends-astray out = rw (or_right (invalid vector t) _ (outside a b t.len out))
+  pub lends_astray : Astray a b t.len → lends a b t ≡ no_part
+  lends_astray out = rw (or_right (invalid vector t) _ (outside a b t.len out))
 
   -- THE QUESTION. Its number and the part, together.
   pub data Question : (number : ℕ) → Part → Type 0 where
@@ -87,8 +87,8 @@ module _ (t : Tray) (a b : ℕ) where
           (within? a b t.len)
 
   -- the part lies inside the slots
-  pub part-inside : (lends a b t).start + (lends a b t).count ≤ cap t
-  part-inside = go question
+  pub part_inside : (lends a b t).start + (lends a b t).count ≤ cap t
+  part_inside = go question
     where
       go : {m : ℕ} {p : Part} → Question m p → p.start + p.count ≤ cap t
       go (lent ok le fits) = omega (arith, (fit vector t ok).fits)
@@ -96,15 +96,15 @@ module _ (t : Tray) (a b : ℕ) where
       go (astray ok out) = omega arith
 
   -- THE ENTRIES of the range, and none where nothing is lent
-  pub part-holds : invalid vector t ≡ false → a ≤ b → b ≤ t.len → inPart (lends a b t) t.slots ≡ take (b - a) (drop a (list vector t))
-  part-holds ok le fits =
+  pub part_holds : invalid vector t ≡ false → a ≤ b → b ≤ t.len → in_part (lends a b t) t.slots ≡ take (b - a) (drop a (list vector t))
+  part_holds ok le fits =
       let room = (fit vector t ok).fits in
-      rw (lends-asked ok le fits) (same-part t.slots (list vector t) a (b - a) (omega arith) (omega (arith, many vector t))
+      rw (lends_asked ok le fits) (same_part t.slots (list vector t) a (b - a) (omega arith) (omega (arith, many vector t))
       (λ j h. sym (at vector t j j (omega arith) refl)))
 
-  pub part_none : lends a b t ≡ no_part → inPart (lends a b t) t.slots ≡ []
+  pub part_none : lends a b t ≡ no_part → in_part (lends a b t) t.slots ≡ []
   part_none e = rw e
 
 -- as_slice and its like
-pub part-all : (t : Tray) → invalid vector t ≡ false → inPart (lendsAll t) t.slots ≡ list vector t
-part-all t ok = part-holds t 0 t.len ok (omega arith) (omega arith) ∙ take_all (t.len - 0) (list vector t) (omega (arith, many vector t))
+pub part_all : (t : Tray) → invalid vector t ≡ false → in_part (lends_all t) t.slots ≡ list vector t
+part_all t ok = part_holds t 0 t.len ok (omega arith) (omega arith) ∙ take_all (t.len - 0) (list vector t) (omega (arith, many vector t))

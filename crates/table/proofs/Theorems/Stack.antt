@@ -7,17 +7,17 @@ use mathlib.Core.List.{List, [], ◌∷◌, ◌++◌, append-nil, append_assoc}
 use native.Mathlib.Omega.{arith}
 use borrow.Author.Tests.{lt-leb}
 use lib.ListN.{length, get_or, length-append}
-use Rattle.slots.specs.Layout.{ring, place, slot_of, posOf}
-use Rattle.slots.proofs.Placing.{Placing, placing, entry, no-entries}
-use Rattle.slots.proofs.Relaid.{length-relaid}
-use Rattle.slots.proofs.Lays.{slot-near}
+use Rattle.slots.specs.Layout.{ring, place, slot_of, pos_of}
+use Rattle.slots.proofs.Placing.{Placing, placing, entry, no_entries}
+use Rattle.slots.proofs.Relaid.{length_relaid}
+use Rattle.slots.proofs.Lays.{slot_near}
 use Rattle.table.specs.Tray.{Tray, cap, list, invalid}
 use Rattle.table.specs.Calls.{Call, push}
-use Rattle.table.specs.Does.{Outcome, headAfter, does}
-use Rattle.table.proofs.Laws.Done.{done-is, no-head, many}
-use Rattle.table.proofs.Theorems.Listed.{call-listed}
-use Rattle.table.proofs.Theorems.StaysValid.{stays-valid}
-use Rattle.table.proofs.Theorems.Home.{valid-home}
+use Rattle.table.specs.Does.{Outcome, head_after, does}
+use Rattle.table.proofs.Laws.Done.{done_is, no_head_law, many}
+use Rattle.table.proofs.Theorems.Listed.{call_listed}
+use Rattle.table.proofs.Theorems.StaysValid.{stays_valid}
+use Rattle.table.proofs.Theorems.Home.{valid_home}
 
 -- a ring on which these are pushed back, the first first
 abbrev pub stacked : Tray → List ℕ → Tray
@@ -41,12 +41,12 @@ pub record Lies (was : Tray) (xs : List ℕ) (now : Tray) : Type 0 where
 
 -- with head 0 a position is its slot, and a slot its position
 plain : (c j : ℕ) → j < c → slot_of c 0 j ≡ j
-plain c j lt = slot-near c 0 j (omega arith) ∙ omega arith
+plain c j lt = slot_near c 0 j (omega arith) ∙ omega arith
 
-plain_back : (c s : ℕ) → s < c → posOf c 0 s ≡ s
+plain_back : (c s : ℕ) → s < c → pos_of c 0 s ≡ s
 plain_back c s lt =
-    let p : Placing c (slot_of c 0) (posOf c 0) = placing ring c 0 (omega arith) in
-    sym (plain c (posOf c 0 s) (p.below s lt)) ∙ p.forth s lt
+    let p : Placing c (slot_of c 0) (pos_of c 0) = placing ring c 0 (omega arith) in
+    sym (plain c (pos_of c 0 s) (p.below s lt)) ∙ p.forth s lt
 
 -- the same on a ring that has entries, from slot 0 on: one push after another
 record Grows (was : Tray) (xs : List ℕ) (now : Tray) : Type 0 where
@@ -60,21 +60,21 @@ record Grows (was : Tray) (xs : List ℕ) (now : Tray) : Type 0 where
 one_more : (t : Tray) (x : ℕ) → invalid ring t ≡ false → t.head ≡ 0 → t.len < cap t → Grows t (x ∷ []) (does ring (push x) t).tray
 one_more t x ok home room =
     let o : Outcome = does ring (push x) t in
-    let is = done-is ring t (push x) ok (lt-leb _ _ room, tt) in
+    let is = done_is ring t (push x) ok (lt-leb _ _ room, tt) in
     let zero : o.number ≡ 0 = ap (λ o. o.number) is in
-    let now = (call-listed ring (push x) t o refl zero).tray in
+    let now = (call_listed ring (push x) t o refl zero).tray in
     let n : ℕ = length (list ring t ++ (x ∷ [])) in
     let longer : n ≡ t.len + 1 = simp (length-append, many ring t) (omega arith) in
-    let at-0 : o.tray.head ≡ 0 = now.head ∙ ap (headAfter ring n) home ∙ no-head ring n in
+    let at_0 : o.tray.head ≡ 0 = now.head ∙ ap (head_after ring n) home ∙ no_head_law ring n in
     record {
       done = (zero, tt);
-      head = at-0;
+      head = at_0;
       len = now.len ∙ longer;
-      long = ap (λ o. cap o.tray) is ∙ length-relaid _ _ _ _ _;
+      long = ap (λ o. cap o.tray) is ∙ length_relaid _ _ _ _ _;
       listed = now.listed;
       rest = λ s past lt.
-          let is-s : posOf (cap t) o.tray.head s ≡ s = ap (λ h. posOf (cap t) h s) at-0 ∙ plain_back (cap t) s lt in
-          let was-s : posOf (cap t) t.head s ≡ s = ap (λ h. posOf (cap t) h s) home ∙ plain_back (cap t) s lt in
+          let is_s : pos_of (cap t) o.tray.head s ≡ s = ap (λ h. pos_of (cap t) h s) at_0 ∙ plain_back (cap t) s lt in
+          let was_s : pos_of (cap t) t.head s ≡ s = ap (λ h. pos_of (cap t) h s) home ∙ plain_back (cap t) s lt in
           now.untouched s lt (omega arith) (omega arith);
     }
 
@@ -84,7 +84,7 @@ grows t [] ok home room =
 grows t (x ∷ xs) ok home room =
     let now : Tray = (does ring (push x) t).tray in
     let first = one_more t x ok home (omega arith) in
-    let then = grows now xs (stays-valid ring (push x) t _ refl ok) first.head (omega (arith, first.len, first.long)) in
+    let then = grows now xs (stays_valid ring (push x) t _ refl ok) first.head (omega (arith, first.len, first.long)) in
     record {
       done = (first.done.0, then.done);
       head = then.head;
@@ -97,8 +97,8 @@ grows t (x ∷ xs) ok home room =
 -- A FRESH STACK on any empty ring that is valid, as many as there are slots at most.
 pub lies : (t : Tray) → invalid ring t ≡ false → t.len ≡ 0 → (xs : List ℕ) → length xs ≤ cap t → Lies t xs (stacked t xs)
 lies t ok none xs room =
-    let g = grows t xs ok (valid-home ring t ok none) (omega arith) in
-    let empty : list ring t ≡ [] = rw none (no-entries _ t.slots) in
+    let g = grows t xs ok (valid_home ring t ok none) (omega arith) in
+    let empty : list ring t ≡ [] = rw none (no_entries _ t.slots) in
     let all : list ring (stacked t xs) ≡ xs = g.listed ∙ ap (λ l. l ++ xs) empty in
     let at_j : (j : ℕ) → j < length xs → place ring (cap (stacked t xs)) (stacked t xs).head j ≡ j =
     λ j lt. ap (λ h. slot_of (cap (stacked t xs)) h j) g.head ∙ plain (cap (stacked t xs)) j (omega (arith, g.long)) in
@@ -116,6 +116,6 @@ lies t ok none xs room =
     }
 
 -- So on a ring that a done call has emptied, whichever it was, wherever its head stood.
-pub emptied-lies : (call : Call) (t : Tray) (o : Outcome) → o ≡ does ring call t → invalid ring t ≡ false → o.tray.len ≡ 0
+pub emptied_lies : (call : Call) (t : Tray) (o : Outcome) → o ≡ does ring call t → invalid ring t ≡ false → o.tray.len ≡ 0
     → (xs : List ℕ) → length xs ≤ cap o.tray → Lies o.tray xs (stacked o.tray xs)
-emptied-lies call t o promised ok none xs room = lies o.tray (stays-valid ring call t o promised ok) none xs room
+emptied_lies call t o promised ok none xs room = lies o.tray (stays_valid ring call t o promised ok) none xs room

@@ -5,5 +5,5 @@ use Rattle.table.proofs.Laws.Stops.{strays}
 use Rattle.table.proofs.astray.Statement.{statement}
 use Rattle.table.proofs.astray.Tie as tie
 
-pub astray-spec : {M : Type 1} → statement M
-astray-spec = tie.close (tie.spec (λ c. strays _ _ _ _ refl (omega arith)))
+pub astray_spec : {M : Type 1} → statement M
+astray_spec = tie.close (tie.spec (λ c. strays _ _ _ _ refl (omega arith)))

@@ -1,6 +1,6 @@
 -- `main` asks for no more of the last answer than there is.
 use borrow.Author.Rules.{rules}
-use Rattle.tray_lines.proofs.Fed.{end-counted}
+use Rattle.tray_lines.proofs.Fed.{end_counted}
 use Rattle.tray.proofs.main.Statement.{statement}
 use Rattle.tray.proofs.main.Tie as tie
 
@@ -17,7 +17,7 @@ main_spec =
     (λ c κs. search rules)
     (λ c. search rules)
     (λ c. search rules)
-    (λ c. search (end-counted, rules))
+    (λ c. search (end_counted, rules))
     (λ c κs. search rules)
     (λ c. search rules)
     (λ c. search rules))

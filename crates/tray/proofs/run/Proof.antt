@@ -8,18 +8,18 @@ use Rattle.tray.proofs.Reading.{none_read, one_more, left, fewer}
 use Rattle.tray.proofs.run.Statement.{statement}
 use Rattle.tray.proofs.run.Tie as tie
 
-abbrev invariant-loop : tie.invariant-loop
-invariant-loop buf₀ out₀ went₀ go₀ buf out went go = (length buf ≡ length buf₀) × (length out ≡ length out₀) × Ran went₀.state went
+abbrev invariant_loop : tie.invariant_loop
+invariant_loop buf₀ out₀ went₀ go₀ buf out went go = (length buf ≡ length buf₀) × (length out ≡ length out₀) × Ran went₀.state went
 
-abbrev decreases-loop : tie.decreases-loop
-decreases-loop buf₀ out₀ went₀ go₀ buf out went go = left went.read go
+abbrev decreases_loop : tie.decreases_loop
+decreases_loop buf₀ out₀ went₀ go₀ buf out went go = left went.read go
 
 pub run_spec : {M : Type 1} → statement M
 run_spec =
     tie.close
     (tie.spec
-    invariant-loop
-    decreases-loop
+    invariant_loop
+    decreases_loop
     (λ c. search (none_read, rules))
     (λ c κs. search rules)
     (λ c. search (fewer, rules))

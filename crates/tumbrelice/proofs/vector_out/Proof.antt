@@ -1,13 +1,13 @@
 -- `vector_out` meets its promise: a refused call leaves the numbers that it was given, one that is done its answer's.
 use borrow.Author.Rules.{rules}
-use Rattle.tumbrelice.proofs.Words.{refused-keeps, done-leaves}
+use Rattle.tumbrelice.proofs.Words.{refused_keeps, done_leaves}
 use Rattle.tumbrelice.proofs.vector_out.Statement.{statement}
 use Rattle.tumbrelice.proofs.vector_out.Tie as tie
 
-pub vector-out-spec : {M : Type 1} → statement M
-vector-out-spec =
+pub vector_out_spec : {M : Type 1} → statement M
+vector_out_spec =
     tie.close
     (tie.spec
-    (λ c. search (refused-keeps, rules))
+    (λ c. search (refused_keeps, rules))
     (λ c κs. search rules)
-    (λ c. search (done-leaves, rules)))
+    (λ c. search (done_leaves, rules)))

@@ -1,18 +1,18 @@
 -- `word` meets its promise: each part stands at its own digits, of a call that is done with no number before them.
 use borrow.Author.Rules.{rules}
-use Rattle.tumbrelice.proofs.Words.{worded, worded-done}
+use Rattle.tumbrelice.proofs.Words.{worded, worded_done}
 use Rattle.tumbrelice.proofs.word.Statement.{statement}
 use Rattle.tumbrelice.proofs.word.Tie as tie
 
-pub word-spec : {M : Type 1} → statement M
-word-spec =
+pub word_spec : {M : Type 1} → statement M
+word_spec =
     tie.close
     (tie.spec
     (λ c. search rules)
     (λ c. search rules)
     (λ c. search rules)
     (λ c. search rules)
-    (λ c. search (worded-done, rules))
+    (λ c. search (worded_done, rules))
     (λ c. search rules)
     (λ c. search rules)
     (λ c. search rules)

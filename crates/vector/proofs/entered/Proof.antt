@@ -4,5 +4,5 @@ use Rattle.runs.proofs.Whole.{whole}
 use Rattle.vector.proofs.entered.Statement.{statement}
 use Rattle.vector.proofs.entered.Tie as tie
 
-pub entered-spec : {M : Type 1} → statement M
-entered-spec = tie.close (tie.spec (λ c κs. search rules) (λ c κs. search rules) (λ c. cc (whole _ _ c.before.put.ensures)))
+pub entered_spec : {M : Type 1} → statement M
+entered_spec = tie.close (tie.spec (λ c κs. search rules) (λ c κs. search rules) (λ c. cc (whole _ _ c.before.put.ensures)))

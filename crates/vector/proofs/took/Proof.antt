@@ -4,5 +4,5 @@ use Rattle.runs.proofs.Whole.{whole}
 use Rattle.vector.proofs.took.Statement.{statement}
 use Rattle.vector.proofs.took.Tie as tie
 
-pub took-spec : {M : Type 1} → statement M
-took-spec = tie.close (tie.spec (λ c κs. search rules) (λ c κs. search rules) (λ c. cc (whole _ _ c.before.took.ensures)))
+pub took_spec : {M : Type 1} → statement M
+took_spec = tie.close (tie.spec (λ c κs. search rules) (λ c κs. search rules) (λ c. cc (whole _ _ c.before.took.ensures)))

@@ -1,12 +1,12 @@
 -- `put_decimal` meets its promise: the digits that are given are the number's, twenty at most.
 use native.Mathlib.Omega.{arith}
 use borrow.Author.Rules.{rules}
-use Rattle.words.proofs.Decimals.{few, decimal-wrote}
+use Rattle.words.proofs.Decimals.{few, decimal_wrote}
 use Rattle.words.proofs.put_decimal.Statement.{statement}
 use Rattle.words.proofs.put_decimal.Tie as tie
 
-pub put-decimal-spec : {M : Type 1} → statement M
-put-decimal-spec =
+pub put_decimal_spec : {M : Type 1} → statement M
+put_decimal_spec =
     tie.close
     (tie.spec
     (λ c κs. search rules)
@@ -16,4 +16,4 @@ put-decimal-spec =
     (λ c. search rules)
     (λ c.
     let d = c.before.before.before.before.before.decimal in
-    (search (decimal-wrote, rules), omega (arith, few _ _ c.before.before.before.before.before.before.before.before.ranges.n.fits d.ensures.1.0, d.ensures.0.1))))
+    (search (decimal_wrote, rules), omega (arith, few _ _ c.before.before.before.before.before.before.before.before.ranges.n.fits d.ensures.1.0, d.ensures.0.1))))

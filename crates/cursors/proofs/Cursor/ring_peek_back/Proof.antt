@@ -2,14 +2,14 @@
 use borrow.Author.Rules.{rules}
 use Rattle.table.specs.Does.{does}
 use Rattle.table.proofs.Laws.Valid.{state}
-use Rattle.table.proofs.Laws.Walks.{peek-back-done}
+use Rattle.table.proofs.Laws.Walks.{peek_back_done}
 use Rattle.cursors.proofs.Told.{refusals, shown}
 use Rattle.cursors.proofs.Cursor.ring_peek_back.Statement.{statement}
 use Rattle.cursors.proofs.Cursor.ring_peek_back.Tie as tie
 
-pub ring-peek-back-spec : {M : Type 1} → statement M
+pub ring_peek_back_spec : {M : Type 1} → statement M
 unfolding does
-ring-peek-back-spec =
+ring_peek_back_spec =
     tie.close
     (tie.spec
     (λ c κs. search rules)
@@ -23,4 +23,4 @@ ring-peek-back-spec =
     (λ c κs. omega state)
     (λ c. search rules)
     (λ c. search rules)
-    (λ c. search (peek-back-done, shown)))
+    (λ c. search (peek_back_done, shown)))

@@ -2,14 +2,14 @@
 use borrow.Author.Rules.{rules}
 use Rattle.table.specs.Does.{does}
 use Rattle.table.proofs.Laws.Valid.{state}
-use Rattle.table.proofs.Laws.Walks.{peek-front-done}
+use Rattle.table.proofs.Laws.Walks.{peek_front_done}
 use Rattle.cursors.proofs.Told.{refusals, shown}
 use Rattle.cursors.proofs.Cursor.ring_peek_front.Statement.{statement}
 use Rattle.cursors.proofs.Cursor.ring_peek_front.Tie as tie
 
-pub ring-peek-front-spec : {M : Type 1} → statement M
+pub ring_peek_front_spec : {M : Type 1} → statement M
 unfolding does
-ring-peek-front-spec =
+ring_peek_front_spec =
     tie.close
     (tie.spec
     (λ c κs. search rules)
@@ -22,4 +22,4 @@ ring-peek-front-spec =
     (λ c κs. omega state)
     (λ c. search rules)
     (λ c. search rules)
-    (λ c. search (peek-front-done, shown)))
+    (λ c. search (peek_front_done, shown)))

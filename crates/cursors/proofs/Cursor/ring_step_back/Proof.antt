@@ -2,14 +2,14 @@
 use borrow.Author.Rules.{rules}
 use Rattle.table.specs.Does.{does}
 use Rattle.table.proofs.Laws.Valid.{state}
-use Rattle.table.proofs.Laws.Walks.{step-back-done}
+use Rattle.table.proofs.Laws.Walks.{step_back_done}
 use Rattle.cursors.proofs.Told.{refusals, shown}
 use Rattle.cursors.proofs.Cursor.ring_step_back.Statement.{statement}
 use Rattle.cursors.proofs.Cursor.ring_step_back.Tie as tie
 
-pub ring-step-back-spec : {M : Type 1} → statement M
+pub ring_step_back_spec : {M : Type 1} → statement M
 unfolding does
-ring-step-back-spec =
+ring_step_back_spec =
     tie.close
     (tie.spec
     (λ c κs. search rules)
@@ -23,4 +23,4 @@ ring-step-back-spec =
     (λ c. search rules)
     (λ c. search rules)
     (λ c. omega state)
-    (λ c. search (step-back-done, shown)))
+    (λ c. search (step_back_done, shown)))

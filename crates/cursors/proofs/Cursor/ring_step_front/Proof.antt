@@ -2,14 +2,14 @@
 use borrow.Author.Rules.{rules}
 use Rattle.table.specs.Does.{does}
 use Rattle.table.proofs.Laws.Valid.{state}
-use Rattle.table.proofs.Laws.Walks.{step-front-done}
+use Rattle.table.proofs.Laws.Walks.{step_front_done}
 use Rattle.cursors.proofs.Told.{refusals, shown}
 use Rattle.cursors.proofs.Cursor.ring_step_front.Statement.{statement}
 use Rattle.cursors.proofs.Cursor.ring_step_front.Tie as tie
 
-pub ring-step-front-spec : {M : Type 1} → statement M
+pub ring_step_front_spec : {M : Type 1} → statement M
 unfolding does
-ring-step-front-spec =
+ring_step_front_spec =
     tie.close
     (tie.spec
     (λ c κs. search rules)
@@ -22,4 +22,4 @@ ring-step-front-spec =
     (λ c. search rules)
     (λ c. search rules)
     (λ c. omega state)
-    (λ c. search (step-front-done, shown)))
+    (λ c. search (step_front_done, shown)))

@@ -4,6 +4,6 @@ use Rattle.table.specs.Does.{does}
 use Rattle.cursors.proofs.Cursor.vector_into_iter.Statement.{statement}
 use Rattle.cursors.proofs.Cursor.vector_into_iter.Tie as tie
 
-pub vector-into-iter-spec : {M : Type 1} → statement M
+pub vector_into_iter_spec : {M : Type 1} → statement M
 unfolding does
-vector-into-iter-spec = tie.close (tie.spec (λ c κs. search rules) (λ c. search rules))
+vector_into_iter_spec = tie.close (tie.spec (λ c κs. search rules) (λ c. search rules))

@@ -2,14 +2,14 @@
 use borrow.Author.Rules.{rules}
 use Rattle.table.specs.Does.{does}
 use Rattle.table.proofs.Laws.Valid.{state}
-use Rattle.table.proofs.Laws.Walks.{vector-peek-back-done}
+use Rattle.table.proofs.Laws.Walks.{vector_peek_back_done}
 use Rattle.cursors.proofs.Told.{refusals, shown}
 use Rattle.cursors.proofs.Cursor.vector_peek_back.Statement.{statement}
 use Rattle.cursors.proofs.Cursor.vector_peek_back.Tie as tie
 
-pub vector-peek-back-spec : {M : Type 1} → statement M
+pub vector_peek_back_spec : {M : Type 1} → statement M
 unfolding does
-vector-peek-back-spec =
+vector_peek_back_spec =
     tie.close
     (tie.spec
     (λ c κs. search rules)
@@ -22,4 +22,4 @@ vector-peek-back-spec =
     (λ c. omega state)
     (λ c. omega state)
     (λ c. omega state)
-    (λ c. search (vector-peek-back-done, shown)))
+    (λ c. search (vector_peek_back_done, shown)))

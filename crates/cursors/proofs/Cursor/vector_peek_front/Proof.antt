@@ -2,14 +2,14 @@
 use borrow.Author.Rules.{rules}
 use Rattle.table.specs.Does.{does}
 use Rattle.table.proofs.Laws.Valid.{state}
-use Rattle.table.proofs.Laws.Walks.{vector-peek-front-done}
+use Rattle.table.proofs.Laws.Walks.{vector_peek_front_done}
 use Rattle.cursors.proofs.Told.{refusals, shown}
 use Rattle.cursors.proofs.Cursor.vector_peek_front.Statement.{statement}
 use Rattle.cursors.proofs.Cursor.vector_peek_front.Tie as tie
 
-pub vector-peek-front-spec : {M : Type 1} → statement M
+pub vector_peek_front_spec : {M : Type 1} → statement M
 unfolding does
-vector-peek-front-spec =
+vector_peek_front_spec =
     tie.close
     (tie.spec
     (λ c κs. search rules)
@@ -21,4 +21,4 @@ vector-peek-front-spec =
     (λ c. omega state)
     (λ c. omega state)
     (λ c. omega state)
-    (λ c. search (vector-peek-front-done, shown)))
+    (λ c. search (vector_peek_front_done, shown)))

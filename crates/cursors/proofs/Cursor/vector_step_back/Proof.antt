@@ -2,14 +2,14 @@
 use borrow.Author.Rules.{rules}
 use Rattle.table.specs.Does.{does}
 use Rattle.table.proofs.Laws.Valid.{state}
-use Rattle.table.proofs.Laws.Walks.{vector-step-back-done}
+use Rattle.table.proofs.Laws.Walks.{vector_step_back_done}
 use Rattle.cursors.proofs.Told.{refusals, shown}
 use Rattle.cursors.proofs.Cursor.vector_step_back.Statement.{statement}
 use Rattle.cursors.proofs.Cursor.vector_step_back.Tie as tie
 
-pub vector-step-back-spec : {M : Type 1} → statement M
+pub vector_step_back_spec : {M : Type 1} → statement M
 unfolding does
-vector-step-back-spec =
+vector_step_back_spec =
     tie.close
     (tie.spec
     (λ c κs. search rules)
@@ -22,4 +22,4 @@ vector-step-back-spec =
     (λ c. omega state)
     (λ c. omega state)
     (λ c. omega state)
-    (λ c. search (vector-step-back-done, shown)))
+    (λ c. search (vector_step_back_done, shown)))

@@ -2,14 +2,14 @@
 use borrow.Author.Rules.{rules}
 use Rattle.table.specs.Does.{does}
 use Rattle.table.proofs.Laws.Valid.{state}
-use Rattle.table.proofs.Laws.Walks.{vector-step-front-done}
+use Rattle.table.proofs.Laws.Walks.{vector_step_front_done}
 use Rattle.cursors.proofs.Told.{refusals, shown}
 use Rattle.cursors.proofs.Cursor.vector_step_front.Statement.{statement}
 use Rattle.cursors.proofs.Cursor.vector_step_front.Tie as tie
 
-pub vector-step-front-spec : {M : Type 1} → statement M
+pub vector_step_front_spec : {M : Type 1} → statement M
 unfolding does
-vector-step-front-spec =
+vector_step_front_spec =
     tie.close
     (tie.spec
     (λ c κs. search rules)
@@ -21,4 +21,4 @@ vector-step-front-spec =
     (λ c. omega state)
     (λ c. omega state)
     (λ c. omega state)
-    (λ c. search (vector-step-front-done, shown)))
+    (λ c. search (vector_step_front_done, shown)))

@@ -1,13 +1,13 @@
 -- `others_of` meets its promise: both sides make the same test.
 use borrow.Author.Rules.{rules}
-use Rattle.import.proofs.Counting.{where-other, where-same}
+use Rattle.import.proofs.Counting.{where_other, where_same}
 use Rattle.import.proofs.counts.others_of.Statement.{statement}
 use Rattle.import.proofs.counts.others_of.Tie as tie
 
-pub others-of-spec : {M : Type 1} → statement M
-others-of-spec =
+pub others_of_spec : {M : Type 1} → statement M
+others_of_spec =
     tie.close
     (tie.spec
-    (λ c. search (where-same, rules))
+    (λ c. search (where_same, rules))
     (λ c. search rules)
-    (λ c. search (where-other, rules)))
+    (λ c. search (where_other, rules)))

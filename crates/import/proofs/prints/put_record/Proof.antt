@@ -1,12 +1,12 @@
 -- `put_record` meets its promise: the pieces, one behind another.
 use native.Mathlib.Omega.{arith}
 use borrow.Author.Rules.{rules}
-use Rattle.import.proofs.Lines.{record-wrote}
+use Rattle.import.proofs.Lines.{record_wrote}
 use Rattle.import.proofs.prints.put_record.Statement.{statement}
 use Rattle.import.proofs.prints.put_record.Tie as tie
 
-pub put-record-spec : {M : Type 1} → statement M
-put-record-spec =
+pub put_record_spec : {M : Type 1} → statement M
+put_record_spec =
     tie.close
     (tie.spec
     (λ c. search rules)
@@ -18,8 +18,8 @@ put-record-spec =
     (λ c κs. search rules)
     (λ c. search rules)
     (λ c.
-    let head = c.before.before.before.before.before.before.before.before.before.before.before.before.before.before.before.before.put-numbered.ensures in
-    let fields = c.before.before.before.before.before.before.before.before.before.before.before.put-several.ensures in
+    let head = c.before.before.before.before.before.before.before.before.before.before.before.before.before.before.before.before.put_numbered.ensures in
+    let fields = c.before.before.before.before.before.before.before.before.before.before.before.put_several.ensures in
     let other = c.before.before.before.before.before.before.before.put_other.ensures in
-    let end = c.before.before.put-text.ensures in
-    (record-wrote _ _ _ head.0 fields.0 other.0 end, omega (arith, head, fields, other, end.behind))))
+    let end = c.before.before.put_text.ensures in
+    (record_wrote _ _ _ head.0 fields.0 other.0 end, omega (arith, head, fields, other, end.behind))))

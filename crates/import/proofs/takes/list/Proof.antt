@@ -4,12 +4,12 @@ use mathlib.Core.Path.{refl}
 use native.Mathlib.Omega.{arith}
 use lib.ListN.{length-take}
 use borrow.Author.Rules.{rules}
-use Rattle.import.proofs.Counting.{counted-sane}
+use Rattle.import.proofs.Counting.{counted_sane}
 use Rattle.import.proofs.takes.list.Statement.{statement}
 use Rattle.import.proofs.takes.list.Tie as tie
 
-pub list-spec : {M : Type 1} → statement M
-list-spec =
+pub list_spec : {M : Type 1} → statement M
+list_spec =
     tie.close
     (tie.spec
     (λ c. search rules)
@@ -23,12 +23,12 @@ list-spec =
     (λ c. search rules)
     (λ c. search rules)
     (λ c.
-    let s = c.before.before.before.before.before.before.before.before.before.before.before.before.before.before.spot-behind.ensures in
+    let s = c.before.before.before.before.before.before.before.before.before.before.before.before.before.before.spot_behind.ensures in
     let k = c.before.before.before.before.before.before.before.before.before.before.before.before.before.counted.ensures in
     let p = c.before.before.before.before.before.before.before.before.before.before.before.before.before.before.before.before.before.before.before.before.before.requires in
     record {
       within = omega (arith, p);
       passed = k.passed;
-      sane = counted-sane _ _ _ _ _ _ _ _ p.1.0 k s refl refl (simp length-take (omega (arith, p))) p.0.0;
-      said = omega (arith, c.before.before.before.before.say-fields.ensures, c.before.before.before.before.before.before.before.before.before.put_record.ensures.0.long);
+      sane = counted_sane _ _ _ _ _ _ _ _ p.1.0 k s refl refl (simp length-take (omega (arith, p))) p.0.0;
+      said = omega (arith, c.before.before.before.before.say_fields.ensures, c.before.before.before.before.before.before.before.before.before.put_record.ensures.0.long);
     }))

@@ -8,19 +8,19 @@ use lib.ListN.{length}
 use Rattle.import.proofs.takes.say_fields.Statement.{statement}
 use Rattle.import.proofs.takes.say_fields.Tie as tie
 
-abbrev invariant-loop : tie.invariant-loop
-invariant-loop text slots theirs n field₀ out₀ s₀ i₀ go₀ field out s i go =
+abbrev invariant_loop : tie.invariant_loop
+invariant_loop text slots theirs n field₀ out₀ s₀ i₀ go₀ field out s i go =
     (i ≤ n) × (length field ≡ length field₀) × (length out ≡ length out₀) × (s.at ≤ length out)
 
-abbrev decreases-loop : tie.decreases-loop
-decreases-loop text slots theirs n field₀ out₀ s₀ i₀ go₀ field out s i go = n - i
+abbrev decreases_loop : tie.decreases_loop
+decreases_loop text slots theirs n field₀ out₀ s₀ i₀ go₀ field out s i go = n - i
 
-pub say-fields-spec : {M : Type 1} → statement M
-say-fields-spec =
+pub say_fields_spec : {M : Type 1} → statement M
+say_fields_spec =
     tie.close
     (tie.spec
-    invariant-loop
-    decreases-loop
+    invariant_loop
+    decreases_loop
     (λ c. search rules)
     (λ c. omega (arith, ltb-true))
     (λ c. omega (arith, ltb-true))

@@ -4,27 +4,27 @@ use mathlib.Core.Path.{◌≡◌}
 use mathlib.Core.Logic.{⊎_elim}
 use borrow.Author.Rules.{rules}
 use lib.ListN.{length, take}
-use Rattle.import.proofs.Window.{kept_more, left, fewer, fills-full, fills-short}
+use Rattle.import.proofs.Window.{kept_more, left, fewer, fills_full, fills_short}
 use Rattle.import.proofs.windows.fill.Statement.{statement}
 use Rattle.import.proofs.windows.fill.Tie as tie
 
-abbrev invariant-loop : tie.invariant-loop
-invariant-loop window₀ held at₀ more₀ failed₀ window at more failed =
+abbrev invariant_loop : tie.invariant_loop
+invariant_loop window₀ held at₀ more₀ failed₀ window at more failed =
     (held ≤ at) × (at ≤ length window) × (length window ≡ length window₀) × (take held window ≡ take held window₀)
 
-abbrev decreases-loop : tie.decreases-loop
-decreases-loop window₀ held at₀ more₀ failed₀ window at more failed = left (length window₀ - at) more
+abbrev decreases_loop : tie.decreases_loop
+decreases_loop window₀ held at₀ more₀ failed₀ window at more failed = left (length window₀ - at) more
 
 pub fill_spec : {M : Type 1} → statement M
 fill_spec =
     tie.close
     (tie.spec
-    invariant-loop
-    decreases-loop
+    invariant_loop
+    decreases_loop
     (λ c. search rules)
     (λ c κs. search rules)
     (λ c. search rules)
     (λ c. search (fewer, rules))
     (λ c. search (kept_more, rules))
     (λ c. search rules)
-    (λ c. ⊎_elim (λ w. search (fills-full, rules)) (λ w. search (fills-short, rules)) c.loop-test.branch))
+    (λ c. ⊎_elim (λ w. search (fills_full, rules)) (λ w. search (fills_short, rules)) c.loop-test.branch))

@@ -4,8 +4,8 @@ use Rattle.import.proofs.Window.{read_kept}
 use Rattle.import.proofs.windows.read_at.Statement.{statement}
 use Rattle.import.proofs.windows.read_at.Tie as tie
 
-pub read-at-spec : {M : Type 1} → statement M
-read-at-spec =
+pub read_at_spec : {M : Type 1} → statement M
+read_at_spec =
     tie.close
     (tie.spec
     (λ c. search rules)

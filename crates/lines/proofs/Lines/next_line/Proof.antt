@@ -52,10 +52,10 @@ use Rattle.lines.proofs.Step.TheLaws as S'
 use Rattle.lines.specs.contracts.Taken as K
 use Rattle.lines.proofs.Taken.TheLaws as K'
 use Rattle.lines.specs.contracts.line_at as step
-use Rattle.lines.proofs.line_at.Symbol as step-def
-use Rattle.lines.proofs.line_at.Symbol.{name as #lines·line-at}
+use Rattle.lines.proofs.line_at.Symbol as step_def
+use Rattle.lines.proofs.line_at.Symbol.{name as #lines·line_at}
 use Rattle.lines.proofs.line_at.Met as step_thm
-use Rattle.lines.specs.contracts.Lines.next_line.Key.{name as #lines·next-line}
+use Rattle.lines.specs.contracts.Lines.next_line.Key.{name as #lines·next_line}
 use Rattle.lines.specs.contracts.Lines.next_line as next
 use Rattle.lines.proofs.Lines.next_line.Statement as stated
 use Rattle.lines.proofs.Lines.next_line.Code as code
@@ -72,7 +72,7 @@ module _ {M : Type 1} {𝓤 : Ura M} (𝓛 : Logic 𝓤) (mem : Memory → SProp
   abbrev LineAt : Contract 𝓤
   LineAt = triple_of 𝓛 step.signature (step.spec 𝓛 mem run)
 
-module _ {M : Type 1} {𝓤 : Ura M} (𝓛 : Logic 𝓤) (mem : Memory → SProp 𝓤) (run : Routine → Fun 𝓤) (κ : Lft) (q : Share) (d : Lines) (k : ℕ) (k-fits : k < 2 ^ 64) where
+module _ {M : Type 1} {𝓤 : Ura M} (𝓛 : Logic 𝓤) (mem : Memory → SProp 𝓤) (run : Routine → Fun 𝓤) (κ : Lft) (q : Share) (d : Lines) (k : ℕ) (k_fits : k < 2 ^ 64) where
   open 𝓛 use {H}
 
   abbrev α : NamedLft
@@ -131,7 +131,7 @@ module _ {M : Type 1} {𝓤 : Ura M} (𝓛 : Logic 𝓤) (mem : Memory → SProp
       move ! (1 ∷ []) $ fsplit ! $ move ! (1 ∷ []) $ drop ! $ use1 𝓛 (‵ Own ⊛ ‵ Own) ((LL.copy D (T'.the_copy α) 𝓛).twice d (mach ∷ [])) $ split ! $
       use1 𝓛 (given (mach ∷ [] ≡ mach ∷ []) (‵ (all_own D.parts L vd))) (own_open 𝓛 D L vd mach) $ learn ! (λ _. use1 𝓛 (‵ (field_own D.parts L 0 d.text) ⊛ ‵ (rest D.parts L 0 vd)) (own_out 𝓛 D.parts L 0 vd) $ split ! $
       -- [what text owns; what at owns; what the reader owns; the token]
-      move ! (1 ∷ []) $ drop ! $ nothing ! $ owned ! usize (Is usize) (uint_Makes 𝓛 w64) k _ (refl, k-fits) $ fjoin ! $ owned ! usize (Is usize) (uint_Makes 𝓛 w64) d.at _ (refl, fits) $ fjoin ! $ move ! (1 ∷ 0 ∷ []) $ fjoin ! $
+      move ! (1 ∷ []) $ drop ! $ nothing ! $ owned ! usize (Is usize) (uint_Makes 𝓛 w64) k _ (refl, k_fits) $ fjoin ! $ owned ! usize (Is usize) (uint_Makes 𝓛 w64) d.at _ (refl, fits) $ fjoin ! $ move ! (1 ∷ 0 ∷ []) $ fjoin ! $
       move ! (2 ∷ 0 ∷ []) $ use2 𝓛 (raw ((LineAt 𝓛 mem run).pre to)) asked $ frame ! $ done !)
 
   -- of the callee's `ensured`, the clause alone: it has no `&mut`, so what is said of last values is dropped
@@ -153,7 +153,7 @@ module _ {M : Type 1} {𝓤 : Ura M} (𝓛 : Logic 𝓤) (mem : Memory → SProp
       qed 𝓛 (‵ ((S.the_row).own_val r (u ∷ [])) ∷ (‵ (flft κ q) ⊛ ‵ ftrue) ∷ ‵ Own ∷ []) ∵
       suffices ! _ (ends_at 𝓛 next.ended stayed (next.clauses 𝓛 mem run) (((κ, tt), (q, tt), tt, (d, (k, tt)), at), tt) (out r) (made r) (tt, (tt, tt)) (tt, (tt, tt))) $ says ! (refl, ap (λ (t : Step). t.next) e, ap (λ (t : Step). t.line) e) $
       move ! (1 ∷ []) $ frame ! $ move ! (1 ∷ []) $ use1 𝓛 (‵ Own ⊛ ‵ Own) ((LL.copy D (T'.the_copy α) 𝓛).twice d (mach ∷ [])) $ split ! $
-      nothing ! $ owned ! usize (Is usize) (uint_Makes 𝓛 w64) k _ (refl, k-fits) $ fjoin ! $ move ! (1 ∷ 0 ∷ []) $ fjoin ! $ frame ! $
+      nothing ! $ owned ! usize (Is usize) (uint_Makes 𝓛 w64) k _ (refl, k_fits) $ fjoin ! $ move ! (1 ∷ 0 ∷ []) $ fjoin ! $ frame ! $
       -- [what the reader owns; what the answer owns]: the next place's facts take the place of at's
       owned ! usize (Is usize) (uint_Makes 𝓛 w64) r.next _ (refl, next_fits r u is) $ move ! (1 ∷ 0 ∷ []) $
       use2 𝓛 (‵ (field_own (K.the_type α).parts (K'.the_laws α) 0 (made r).rest)) (own_put 𝓛 D L 1 vd r.next mach) $ move ! (1 ∷ []) $
@@ -161,12 +161,12 @@ module _ {M : Type 1} {𝓤 : Ura M} (𝓛 : Logic 𝓤) (mem : Memory → SProp
       use1 𝓛 (given (u ∷ [] ≡ LL.vals S.the_type S'.the_laws r) (‵ (all_own (S.the_type).parts S'.the_laws (r.line, (r.next, tt))))) (own_open 𝓛 S.the_type S'.the_laws (r.line, (r.next, tt)) u) $ learn ! (λ _.
       fsplit ! $ move ! (1 ∷ []) $ drop ! $ nothing ! $ move ! (1 ∷ 0 ∷ []) $ fjoin ! $ move ! (1 ∷ 0 ∷ []) $ fjoin ! $ by ! (own_shut 𝓛 (K.the_type α) (K'.the_laws α) ((made r).rest, ((made r).line, tt))))
 
-  module _ (C : Calls 𝓤 H) (Λ : Loops 𝓤 H) (fm : FmC 𝓤 H 𝓛.laws C) (known : Triple 𝓤 (C #lines·line-at) (LineAt 𝓛 mem run)) where
+  module _ (C : Calls 𝓤 H) (Λ : Loops 𝓤 H) (fm : FmC 𝓤 H 𝓛.laws C) (known : Triple 𝓤 (C #lines·line_at) (LineAt 𝓛 mem run)) where
     walk : Is (B (κ, tt)) d (mach ∷ []) → ent 𝓤 (on_entry 𝓛 next.signature (κ, tt) (q, tt) (d, (k, tt)) at) (WpFn 𝓤 H C Λ code.function (mach ∷ vint w64 k ∷ []) Post)
     walk was =
         let wt = ((LL.lawful D L 𝓛).typed d (mach ∷ []) was).0 in
         qed 𝓛 (raw (on_entry 𝓛 next.signature (κ, tt) (q, tt) (d, (k, tt)) at) ∷ []) ∵ enter ! C Λ code.function (mach ∷ vint w64 k ∷ []) _ $
-        alloc1 ! (λ l₀. alloc1 ! (λ l₁. alloc1 ! (λ l₂. alloc1 ! (λ l₃. alloc1 ! (λ l₄. alloc1 ! (λ l₅. alloc1 ! (λ l₆. alloc1 ! (λ l₇. alloc0 ! $ params1 ! $ pass1 ! (init ! 12 refl wt) $ pass1 ! (init ! 10 refl (tt, record { fits = k-fits })) $ pass0 ! $
+        alloc1 ! (λ l₀. alloc1 ! (λ l₁. alloc1 ! (λ l₂. alloc1 ! (λ l₃. alloc1 ! (λ l₄. alloc1 ! (λ l₅. alloc1 ! (λ l₆. alloc1 ! (λ l₇. alloc0 ! $ params1 ! $ pass1 ! (init ! 12 refl wt) $ pass1 ! (init ! 10 refl (tt, record { fits = k_fits })) $ pass0 ! $
         assigns ! (of_opd ! (load ! (from ! (fld ! refl (stop !))) (look_in ! 12 (sub ! 0 refl (whole !))))) (from ! (stop !)) (init ! 6 refl (tt, wt.1.0)) $
         assigns ! (of_opd ! (load ! (from ! (fld ! refl (stop !))) (look_in ! 12 (sub ! 1 refl (whole !))))) (from ! (stop !)) (init ! 4 refl (tt, wt.1.1.0)) $
         move ! (16 ∷ []) $ use1 𝓛 (raw ((LineAt 𝓛 mem run).pre to) ⊛ ‵ Own) (apart wt.1.1.0.fits) $ split ! $
@@ -188,22 +188,22 @@ module _ {M : Type 1} {𝓤 : Ura M} (𝓛 : Logic 𝓤) (mem : Memory → SProp
 module _ {M : Type 1} {𝓤 : Ura M} (𝓛 : Logic 𝓤) (mem : Memory → SProp 𝓤) (run : Routine → Fun 𝓤) where
   open 𝓛 use {H}
 
-  next-line-walks : (C : Calls 𝓤 H) (Λ : Loops 𝓤 H) → FmC 𝓤 H 𝓛.laws C → Triple 𝓤 (C #lines·line-at) (LineAt 𝓛 mem run)
+  next_line_walks : (C : Calls 𝓤 H) (Λ : Loops 𝓤 H) → FmC 𝓤 H 𝓛.laws C → Triple 𝓤 (C #lines·line_at) (LineAt 𝓛 mem run)
       → Walks 𝓛 next.ended stayed (WpFn 𝓤 H C Λ code.function) (next.clauses 𝓛 mem run)
-  next-line-walks C Λ fm known = walked 𝓛 next.ended stayed (next.clauses 𝓛 mem run) (WpFn 𝓤 H C Λ code.function)
+  next_line_walks C Λ fm known = walked 𝓛 next.ended stayed (next.clauses 𝓛 mem run) (WpFn 𝓤 H C Λ code.function)
       (λ κs. (LL.vals (T.the_type (named_lft 1 0 tt κs)) (T'.the_laws (named_lft 1 0 tt κs)), (uint_vals w64, tt))) (λ κs. (LL.tells (T.the_type (named_lft 1 0 tt κs)) (T'.the_laws (named_lft 1 0 tt κs)), (uint_Tells w64, tt)))
       (λ κs qs bounds a g are. via 𝓤 _ (fst∗ 𝓤 _ (emp 𝓤)) (walk 𝓛 mem run κs.0 qs.0 a.0 a.1.0 are.1.0.1 C Λ fm known are.0))
 
-next-line-meets : {M : Type 1} {𝓤 : Ura M} (𝓛 : Logic 𝓤) (mem : Memory → SProp 𝓤) (run : Routine → Fun 𝓤) (𝓣 : Tables 𝓤 𝓛.H)
-    → Triple 𝓤 (𝓣.C #lines·line-at) (LineAt 𝓛 mem run)
+next_line_meets : {M : Type 1} {𝓤 : Ura M} (𝓛 : Logic 𝓤) (mem : Memory → SProp 𝓤) (run : Routine → Fun 𝓤) (𝓣 : Tables 𝓤 𝓛.H)
+    → Triple 𝓤 (𝓣.C #lines·line_at) (LineAt 𝓛 mem run)
     → Meets 𝓛 next.signature (WpFn 𝓤 𝓛.H 𝓣.C 𝓣.Λ code.function) (next.spec 𝓛 mem run)
-next-line-meets {𝓤 = 𝓤} 𝓛 mem run 𝓣 known = walk_Meets 𝓛 next.ended stayed (Goes-none 𝓛 1 B yes (λ κs x f. refl), (Goes-none 𝓛 1 (λ _. usize) yes (λ κs x f. refl), tt)) (next.clauses 𝓛 mem run) (WpFn 𝓤 𝓛.H 𝓣.C 𝓣.Λ code.function) (WpFn-mono 𝓤 𝓛.H 𝓛.laws 𝓣 code.function)
-    (next-line-walks 𝓛 mem run 𝓣.C 𝓣.Λ (fm_of 𝓤 𝓛.H 𝓛.laws 𝓣) known)
+next_line_meets {𝓤 = 𝓤} 𝓛 mem run 𝓣 known = walk_Meets 𝓛 next.ended stayed (Goes-none 𝓛 1 B yes (λ κs x f. refl), (Goes-none 𝓛 1 (λ _. usize) yes (λ κs x f. refl), tt)) (next.clauses 𝓛 mem run) (WpFn 𝓤 𝓛.H 𝓣.C 𝓣.Λ code.function) (WpFn-mono 𝓤 𝓛.H 𝓛.laws 𝓣 code.function)
+    (next_line_walks 𝓛 mem run 𝓣.C 𝓣.Λ (fm_of 𝓤 𝓛.H 𝓛.laws 𝓣) known)
 
-pub next-line-spec : {M : Type 1} → stated.statement M
+pub next_line_spec : {M : Type 1} → stated.statement M
 unfolding code.routine tables_of
-next-line-spec 𝓤 𝓛 𝓜 𝓡 =
+next_line_spec 𝓤 𝓛 𝓜 𝓡 =
     entered 𝓤 𝓛.H (triple_of 𝓛 next.signature (next.spec 𝓛 𝓜.mem 𝓡.run))
-    (tables 𝓤 𝓛.H 𝓜 𝓡 code.env).C (tables 𝓤 𝓛.H 𝓜 𝓡 code.env).Λ #lines·next-line code.function (code.unfolded 𝓤 𝓛.H 𝓜 𝓡)
-    (next-line-meets 𝓛 𝓜.mem 𝓡.run (tables_of 𝓤 𝓛.H 𝓜 (tables 𝓤 𝓛.H 𝓜 𝓡 code.env))
-    (cited 𝓤 𝓛.H (LineAt 𝓛 𝓜.mem 𝓡.run) 𝓜 𝓡 code.env #lines·line-at step-def.routine code.calls-lines::line-at (step_thm.met 𝓤 𝓛 𝓜 𝓡)))
+    (tables 𝓤 𝓛.H 𝓜 𝓡 code.env).C (tables 𝓤 𝓛.H 𝓜 𝓡 code.env).Λ #lines·next_line code.function (code.unfolded 𝓤 𝓛.H 𝓜 𝓡)
+    (next_line_meets 𝓛 𝓜.mem 𝓡.run (tables_of 𝓤 𝓛.H 𝓜 (tables 𝓤 𝓛.H 𝓜 𝓡 code.env))
+    (cited 𝓤 𝓛.H (LineAt 𝓛 𝓜.mem 𝓡.run) 𝓜 𝓡 code.env #lines·line_at step_def.routine code.calls_lines::line_at (step_thm.met 𝓤 𝓛 𝓜 𝓡)))

@@ -2,14 +2,14 @@
 use borrow.Author.Rules.{rules}
 use Rattle.table.specs.Does.{does2}
 use Rattle.table.proofs.Laws.Valid.{state}
-use Rattle.table.proofs.Laws.Equal.{longer-done, same-done, differ-done}
+use Rattle.table.proofs.Laws.Equal.{longer_done, same_done, differ_done}
 use Rattle.pairs.proofs.ToldMixed.{refusals, shown}
 use Rattle.pairs.proofs.mixed.same_as_vector.Statement.{statement}
 use Rattle.pairs.proofs.mixed.same_as_vector.Tie as tie
 
-pub same-as-vector-spec : {M : Type 1} → statement M
+pub same_as_vector_spec : {M : Type 1} → statement M
 unfolding does2
-same-as-vector-spec =
+same_as_vector_spec =
     tie.close
     (tie.spec
     (λ c κs. search rules)
@@ -19,9 +19,9 @@ same-as-vector-spec =
     (λ c κs. search rules)
     (λ c. search refusals depth 9)
     (λ c κs. search rules)
-    (λ c. search (longer-done, shown) depth 9)
+    (λ c. search (longer_done, shown) depth 9)
     (λ c κs. omega state)
     (λ c κs. search rules)
-    (λ c. search (same-done, shown) depth 9)
+    (λ c. search (same_done, shown) depth 9)
     (λ c κs. search rules)
-    (λ c. search (differ-done, shown) depth 9))
+    (λ c. search (differ_done, shown) depth 9))

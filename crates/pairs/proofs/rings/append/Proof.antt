@@ -2,14 +2,14 @@
 use borrow.Author.Rules.{rules}
 use Rattle.table.specs.Does.{does2}
 use Rattle.table.proofs.Laws.Valid.{state}
-use Rattle.table.proofs.Laws.Done2.{append-none-done, append-done}
+use Rattle.table.proofs.Laws.Done2.{append_none_done, append_done}
 use Rattle.pairs.proofs.ToldRings.{refusals, stays, shown}
 use Rattle.pairs.proofs.rings.append.Statement.{statement}
 use Rattle.pairs.proofs.rings.append.Tie as tie
 
-pub append-spec : {M : Type 1} → statement M
+pub append_spec : {M : Type 1} → statement M
 unfolding does2
-append-spec =
+append_spec =
     tie.close
     (tie.spec
     (λ c κs. search rules)
@@ -22,8 +22,8 @@ append-spec =
     (λ c κs. search rules)
     (λ c. search refusals depth 9)
     (λ c κs. search rules)
-    (λ c. search (append-none-done, stays) depth 9)
+    (λ c. search (append_none_done, stays) depth 9)
     (λ c κs. omega state)
     (λ c. search rules)
     (λ c. search rules)
-    (λ c. search (append-done, shown) depth 9))
+    (λ c. search (append_done, shown) depth 9))

@@ -2,14 +2,14 @@
 use borrow.Author.Rules.{rules}
 use Rattle.table.specs.Does.{does2}
 use Rattle.table.proofs.Laws.Valid.{state}
-use Rattle.table.proofs.Laws.Done2.{clone-none-done, clone-done}
+use Rattle.table.proofs.Laws.Done2.{clone_none_done, clone_done}
 use Rattle.pairs.proofs.ToldRings.{refusals, stays, shown}
 use Rattle.pairs.proofs.rings.clone.Statement.{statement}
 use Rattle.pairs.proofs.rings.clone.Tie as tie
 
-pub clone-spec : {M : Type 1} → statement M
+pub clone_spec : {M : Type 1} → statement M
 unfolding does2
-clone-spec =
+clone_spec =
     tie.close
     (tie.spec
     (λ c κs. search rules)
@@ -23,8 +23,8 @@ clone-spec =
     (λ c κs. search rules)
     (λ c. search refusals depth 9)
     (λ c κs. search rules)
-    (λ c. search (clone-none-done, stays) depth 9)
+    (λ c. search (clone_none_done, stays) depth 9)
     (λ c κs. omega state)
     (λ c κs. search rules)
     (λ c. search rules)
-    (λ c. search (clone-done, shown) depth 9))
+    (λ c. search (clone_done, shown) depth 9))

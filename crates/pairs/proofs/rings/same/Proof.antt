@@ -2,7 +2,7 @@
 use borrow.Author.Rules.{rules}
 use Rattle.table.specs.Does.{does2}
 use Rattle.table.proofs.Laws.Valid.{state}
-use Rattle.table.proofs.Laws.Equal.{longer-done, same-done, differ-done}
+use Rattle.table.proofs.Laws.Equal.{longer_done, same_done, differ_done}
 use Rattle.pairs.proofs.ToldRings.{refusals, stays}
 use Rattle.pairs.proofs.rings.same.Statement.{statement}
 use Rattle.pairs.proofs.rings.same.Tie as tie
@@ -19,9 +19,9 @@ same_spec =
     (λ c κs. search rules)
     (λ c. search refusals depth 9)
     (λ c κs. search rules)
-    (λ c. search (longer-done, stays) depth 9)
+    (λ c. search (longer_done, stays) depth 9)
     (λ c κs. omega state)
     (λ c κs. search rules)
-    (λ c. search (same-done, stays) depth 9)
+    (λ c. search (same_done, stays) depth 9)
     (λ c κs. search rules)
-    (λ c. search (differ-done, stays) depth 9))
+    (λ c. search (differ_done, stays) depth 9))

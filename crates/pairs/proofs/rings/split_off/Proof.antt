@@ -2,14 +2,14 @@
 use borrow.Author.Rules.{rules}
 use Rattle.table.specs.Does.{does2}
 use Rattle.table.proofs.Laws.Valid.{state}
-use Rattle.table.proofs.Laws.Done2.{split-none-done, split_done}
+use Rattle.table.proofs.Laws.Done2.{split_none_done, split_done}
 use Rattle.pairs.proofs.ToldRings.{refusals, stays, shown}
 use Rattle.pairs.proofs.rings.split_off.Statement.{statement}
 use Rattle.pairs.proofs.rings.split_off.Tie as tie
 
-pub split-off-spec : {M : Type 1} → statement M
+pub split_off_spec : {M : Type 1} → statement M
 unfolding does2
-split-off-spec =
+split_off_spec =
     tie.close
     (tie.spec
     (λ c κs. search rules)
@@ -25,7 +25,7 @@ split-off-spec =
     (λ c κs. search rules)
     (λ c. search refusals depth 9)
     (λ c κs. search rules)
-    (λ c. search (split-none-done, stays) depth 9)
+    (λ c. search (split_none_done, stays) depth 9)
     (λ c κs. omega state)
     (λ c. search rules)
     (λ c. search rules)

@@ -2,14 +2,14 @@
 use borrow.Author.Rules.{rules}
 use Rattle.table.specs.Does.{does2}
 use Rattle.table.proofs.Laws.Valid.{state}
-use Rattle.table.proofs.Laws.Done2.{vector-append-done}
+use Rattle.table.proofs.Laws.Done2.{vector_append_done}
 use Rattle.pairs.proofs.ToldVectors.{refusals, shown}
 use Rattle.pairs.proofs.vectors.append.Statement.{statement}
 use Rattle.pairs.proofs.vectors.append.Tie as tie
 
-pub append-spec : {M : Type 1} → statement M
+pub append_spec : {M : Type 1} → statement M
 unfolding does2
-append-spec =
+append_spec =
     tie.close
     (tie.spec
     (λ c κs. search rules)
@@ -24,4 +24,4 @@ append-spec =
     (λ c κs. omega state)
     (λ c. search rules)
     (λ c. search rules)
-    (λ c. search (vector-append-done, shown) depth 9))
+    (λ c. search (vector_append_done, shown) depth 9))

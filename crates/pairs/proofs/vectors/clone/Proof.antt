@@ -2,14 +2,14 @@
 use borrow.Author.Rules.{rules}
 use Rattle.table.specs.Does.{does2}
 use Rattle.table.proofs.Laws.Valid.{state}
-use Rattle.table.proofs.Laws.Done2.{clone-done}
+use Rattle.table.proofs.Laws.Done2.{clone_done}
 use Rattle.pairs.proofs.ToldVectors.{refusals, shown}
 use Rattle.pairs.proofs.vectors.clone.Statement.{statement}
 use Rattle.pairs.proofs.vectors.clone.Tie as tie
 
-pub clone-spec : {M : Type 1} → statement M
+pub clone_spec : {M : Type 1} → statement M
 unfolding does2
-clone-spec =
+clone_spec =
     tie.close
     (tie.spec
     (λ c κs. search rules)
@@ -25,4 +25,4 @@ clone-spec =
     (λ c κs. omega state)
     (λ c κs. search rules)
     (λ c. search rules)
-    (λ c. search (clone-done, shown) depth 9))
+    (λ c. search (clone_done, shown) depth 9))

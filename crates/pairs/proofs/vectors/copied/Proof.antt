@@ -14,5 +14,5 @@ use Rattle.pairs.proofs.vectors.copied.Tie as tie
 summed : (r : Both) (v v2 : Vector) (n m : ℕ) (t : Total) → r ≡ says 0 0 v v2 → v2 ≡ state n t → t.sum ≡ m → r ≡ says 0 0 v (state n (summing m))
 summed r v v2 n m t e second sum = e ∙ ap (says 0 0 v) (second ∙ ap (λ m. state n (summing m)) sum)
 
-pub copied-spec : {M : Type 1} → statement M
-copied-spec = tie.close (tie.spec (λ c κs. search rules) (λ c κs. search rules) (λ c κs. search rules) (λ c. (search summed, search rules)))
+pub copied_spec : {M : Type 1} → statement M
+copied_spec = tie.close (tie.spec (λ c κs. search rules) (λ c κs. search rules) (λ c κs. search rules) (λ c. (search summed, search rules)))

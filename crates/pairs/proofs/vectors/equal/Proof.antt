@@ -2,14 +2,14 @@
 use borrow.Author.Rules.{rules}
 use Rattle.table.specs.Does.{does2}
 use Rattle.table.proofs.Laws.Valid.{state}
-use Rattle.table.proofs.Laws.Equal.{longer-done, same-done, differ-done}
+use Rattle.table.proofs.Laws.Equal.{longer_done, same_done, differ_done}
 use Rattle.pairs.proofs.ToldVectors.{refusals, stays}
 use Rattle.pairs.proofs.vectors.equal.Statement.{statement}
 use Rattle.pairs.proofs.vectors.equal.Tie as tie
 
-pub equal-spec : {M : Type 1} → statement M
+pub equal_spec : {M : Type 1} → statement M
 unfolding does2
-equal-spec =
+equal_spec =
     tie.close
     (tie.spec
     (λ c κs. search rules)
@@ -19,9 +19,9 @@ equal-spec =
     (λ c κs. search rules)
     (λ c. search refusals depth 9)
     (λ c κs. search rules)
-    (λ c. search (longer-done, stays) depth 9)
+    (λ c. search (longer_done, stays) depth 9)
     (λ c κs. omega state)
     (λ c κs. search rules)
-    (λ c. search (same-done, stays) depth 9)
+    (λ c. search (same_done, stays) depth 9)
     (λ c κs. search rules)
-    (λ c. search (differ-done, stays) depth 9))
+    (λ c. search (differ_done, stays) depth 9))

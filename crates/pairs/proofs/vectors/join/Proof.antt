@@ -2,7 +2,7 @@
 use mathlib.Core.Path.{◌≡◌, ap, ap₂, ◌∙◌}
 use Prim.Native.Nat.{ℕ}
 use borrow.Author.Rules.{rules}
-use Rattle.slots.proofs.Lays.{lay-all}
+use Rattle.slots.proofs.Lays.{lay_all}
 use Rattle.slots.specs.Total.{changed}
 use Rattle.runs.specs.declared.total.Total.{Total}
 use Rattle.runs.specs.Width.{summing}
@@ -18,8 +18,8 @@ summed : (r : Both) (v v2 : Vector) (n n2 a b d : ℕ) (t t2 sum : Total) → r 
 summed r v v2 n n2 a b d t t2 sum e first second is is1 is2 =
     e ∙ ap₂ (says 0 0) (first ∙ ap (λ m. state n (summing m)) (is1 ∙ ap (λ d. changed a d 0) is)) (second ∙ ap (λ m. state n2 (summing m)) (is2 ∙ ap (λ d. changed b 0 d) is))
 
-pub join-spec : {M : Type 1} → statement M
-join-spec =
+pub join_spec : {M : Type 1} → statement M
+join_spec =
     tie.close
     (tie.spec
     (λ c κs. search rules)
@@ -31,4 +31,4 @@ join-spec =
     (λ c κs. search rules)
     (λ c. search rules)
     (λ c. search rules)
-    (λ c. (search (lay-all, rules), search rules, search summed)))
+    (λ c. (search (lay_all, rules), search rules, search summed)))

@@ -17,8 +17,8 @@ summed : (r : Both) (v v2 : Vector) (n n2 a b d : ℕ) (t t2 sum : Total) → r 
 summed r v v2 n n2 a b d t t2 sum e first second is is1 is2 =
     e ∙ ap₂ (says 0 0) (first ∙ ap (λ m. state n (summing m)) (is1 ∙ ap (λ d. changed a 0 d) is)) (second ∙ ap (λ m. state n2 (summing m)) (is2 ∙ ap (λ d. changed b d 0) is))
 
-pub split-spec : {M : Type 1} → statement M
-split-spec =
+pub split_spec : {M : Type 1} → statement M
+split_spec =
     tie.close
     (tie.spec
     (λ c κs. search rules)

@@ -16,5 +16,5 @@ summed : (r : Both) (v v2 : Vector) (value n m m2 : ℕ) (t t2 : Total) → r �
 summed r v v2 value n m m2 t t2 e first second sum sum2 =
     e ∙ ap₂ (says 0 value) (first ∙ ap (λ m. state n (summing m)) sum) (second ∙ ap (λ m. state n (summing m)) sum2)
 
-pub done-spec : {M : Type 1} → statement M
-done-spec = tie.close (tie.spec (λ c κs. search rules) (λ c κs. search rules) (λ c κs. search rules) (λ c κs. search rules) (λ c κs. search rules) (λ c. search summed))
+pub done_spec : {M : Type 1} → statement M
+done_spec = tie.close (tie.spec (λ c κs. search rules) (λ c κs. search rules) (λ c κs. search rules) (λ c κs. search rules) (λ c κs. search rules) (λ c. search summed))

@@ -2,25 +2,25 @@
 use Prim.Native.Nat.{◌-◌}
 use borrow.Author.Rules.{rules}
 use lib.ListN.{length}
-use Rattle.record.proofs.Laws.Undoing.{Counted, none-counted, one-counted, less-left, all-counted}
+use Rattle.record.proofs.Laws.Undoing.{Counted, none_counted, one_counted, less_left, all_counted}
 use Rattle.record.proofs.texts.undone_size.Statement.{statement}
 use Rattle.record.proofs.texts.undone_size.Tie as tie
 
-abbrev invariant-loop : tie.invariant-loop
-invariant-loop part at₀ count₀ at count = Counted part at count
+abbrev invariant_loop : tie.invariant_loop
+invariant_loop part at₀ count₀ at count = Counted part at count
 
-abbrev decreases-loop : tie.decreases-loop
-decreases-loop part at₀ count₀ at count = length part - at
+abbrev decreases_loop : tie.decreases_loop
+decreases_loop part at₀ count₀ at count = length part - at
 
-pub undone-size-spec : {M : Type 1} → statement M
-undone-size-spec =
+pub undone_size_spec : {M : Type 1} → statement M
+undone_size_spec =
     tie.close
     (tie.spec
-    invariant-loop
-    decreases-loop
-    (λ c. search (none-counted, rules))
+    invariant_loop
+    decreases_loop
+    (λ c. search (none_counted, rules))
     (λ c κs. search rules)
     (λ c. search rules)
-    (λ c. search (less-left, rules))
-    (λ c. search (one-counted, rules))
-    (λ c. search (all-counted, rules)))
+    (λ c. search (less_left, rules))
+    (λ c. search (one_counted, rules))
+    (λ c. search (all_counted, rules)))

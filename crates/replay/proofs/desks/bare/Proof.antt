@@ -6,18 +6,18 @@ use lib.ListN.{length}
 use Rattle.replay.proofs.desks.bare.Statement.{statement}
 use Rattle.replay.proofs.desks.bare.Tie as tie
 
-abbrev invariant-loop : tie.invariant-loop
-invariant-loop slots₀ i₀ slots i = length slots ≡ length slots₀
+abbrev invariant_loop : tie.invariant_loop
+invariant_loop slots₀ i₀ slots i = length slots ≡ length slots₀
 
-abbrev decreases-loop : tie.decreases-loop
-decreases-loop slots₀ i₀ slots i = length slots₀ - i
+abbrev decreases_loop : tie.decreases_loop
+decreases_loop slots₀ i₀ slots i = length slots₀ - i
 
 pub bare_spec : {M : Type 1} → statement M
 bare_spec =
     tie.close
     (tie.spec
-    invariant-loop
-    decreases-loop
+    invariant_loop
+    decreases_loop
     (λ c. search rules)
     (λ c. search rules)
     (λ c. search rules)

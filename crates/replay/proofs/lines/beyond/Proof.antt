@@ -1,12 +1,12 @@
 -- `lines::beyond` meets its promise: it is the definition.
 use mathlib.Core.Path.{refl}
-use Rattle.replay.specs.Lines.{isBeyond}
+use Rattle.replay.specs.Lines.{is_beyond}
 use Rattle.replay.proofs.lines.beyond.Statement.{statement}
 use Rattle.replay.proofs.lines.beyond.Tie as tie
 
-pub beyond-spec : {M : Type 1} → statement M
-unfolding isBeyond
-beyond-spec =
+pub beyond_spec : {M : Type 1} → statement M
+unfolding is_beyond
+beyond_spec =
     tie.close
     (tie.spec
     (λ c. refl))

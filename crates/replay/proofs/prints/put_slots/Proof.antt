@@ -6,18 +6,18 @@ use lib.ListN.{length}
 use Rattle.replay.proofs.prints.put_slots.Statement.{statement}
 use Rattle.replay.proofs.prints.put_slots.Tie as tie
 
-abbrev invariant-loop : tie.invariant-loop
-invariant-loop out₀ from slots at₀ i₀ out at i = length out ≡ length out₀
+abbrev invariant_loop : tie.invariant_loop
+invariant_loop out₀ from slots at₀ i₀ out at i = length out ≡ length out₀
 
-abbrev decreases-loop : tie.decreases-loop
-decreases-loop out₀ from slots at₀ i₀ out at i = length slots - i
+abbrev decreases_loop : tie.decreases_loop
+decreases_loop out₀ from slots at₀ i₀ out at i = length slots - i
 
-pub put-slots-spec : {M : Type 1} → statement M
-put-slots-spec =
+pub put_slots_spec : {M : Type 1} → statement M
+put_slots_spec =
     tie.close
     (tie.spec
-    invariant-loop
-    decreases-loop
+    invariant_loop
+    decreases_loop
     (λ c. search rules)
     (λ c. search rules)
     (λ c. search rules)

@@ -6,18 +6,18 @@ use lib.ListN.{length}
 use Rattle.replay.proofs.texts.copy.Statement.{statement}
 use Rattle.replay.proofs.texts.copy.Tie as tie
 
-abbrev invariant-loop : tie.invariant-loop
-invariant-loop from to₀ count i₀ to i = length to ≡ length to₀
+abbrev invariant_loop : tie.invariant_loop
+invariant_loop from to₀ count i₀ to i = length to ≡ length to₀
 
-abbrev decreases-loop : tie.decreases-loop
-decreases-loop from to₀ count i₀ to i = count - i
+abbrev decreases_loop : tie.decreases_loop
+decreases_loop from to₀ count i₀ to i = count - i
 
 pub copy_spec : {M : Type 1} → statement M
 copy_spec =
     tie.close
     (tie.spec
-    invariant-loop
-    decreases-loop
+    invariant_loop
+    decreases_loop
     (λ c. search rules)
     (λ c. search rules)
     (λ c. search rules)

@@ -6,18 +6,18 @@ use lib.ListN.{length}
 use Rattle.replay.proofs.texts.dash.Statement.{statement}
 use Rattle.replay.proofs.texts.dash.Tie as tie
 
-abbrev invariant-loop : tie.invariant-loop
-invariant-loop part₀ i₀ part i = length part ≡ length part₀
+abbrev invariant_loop : tie.invariant_loop
+invariant_loop part₀ i₀ part i = length part ≡ length part₀
 
-abbrev decreases-loop : tie.decreases-loop
-decreases-loop part₀ i₀ part i = length part₀ - i
+abbrev decreases_loop : tie.decreases_loop
+decreases_loop part₀ i₀ part i = length part₀ - i
 
-pub dash-spec : {M : Type 1} → statement M
-dash-spec =
+pub dash_spec : {M : Type 1} → statement M
+dash_spec =
     tie.close
     (tie.spec
-    invariant-loop
-    decreases-loop
+    invariant_loop
+    decreases_loop
     (λ c. search rules)
     (λ c. search rules)
     (λ c. search rules)

@@ -2,7 +2,7 @@
 use borrow.Author.Rules.{rules}
 use Rattle.table.specs.Does.{does}
 use Rattle.table.proofs.Laws.Valid.{state}
-use Rattle.table.proofs.Laws.Cut.{clear-none-done, clear-done}
+use Rattle.table.proofs.Laws.Cut.{clear_none_done, clear_done}
 use Rattle.ring.proofs.Told.{refusals, stays, shown}
 use Rattle.ring.proofs.Ring.clear.Statement.{statement}
 use Rattle.ring.proofs.Ring.clear.Tie as tie
@@ -16,9 +16,9 @@ clear_spec =
     (λ c κs. search rules)
     (λ c. search refusals)
     (λ c κs. search rules)
-    (λ c. search (clear-none-done, stays))
+    (λ c. search (clear_none_done, stays))
     (λ c κs. omega state)
     (λ c κs. search rules)
     (λ c κs. search rules)
     (λ c. search rules)
-    (λ c. search (clear-done, shown)))
+    (λ c. search (clear_done, shown)))

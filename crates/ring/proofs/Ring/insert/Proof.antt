@@ -2,14 +2,14 @@
 use borrow.Author.Rules.{rules}
 use Rattle.table.specs.Does.{does}
 use Rattle.table.proofs.Laws.Valid.{state}
-use Rattle.table.proofs.Laws.Shifted.{insert-front-done, insert-back-done}
-use Rattle.ring.proofs.Told.{refusals, shown-lit}
+use Rattle.table.proofs.Laws.Shifted.{insert_front_done, insert_back_done}
+use Rattle.ring.proofs.Told.{refusals, shown_lit}
 use Rattle.ring.proofs.Ring.insert.Statement.{statement}
 use Rattle.ring.proofs.Ring.insert.Tie as tie
 
-pub insert-spec : {M : Type 1} → statement M
+pub insert_spec : {M : Type 1} → statement M
 unfolding does
-insert-spec =
+insert_spec =
     tie.close
     (tie.spec
     (λ c κs. search rules)
@@ -28,7 +28,7 @@ insert-spec =
     (λ c κs. search rules)
     (λ c κs. search rules)
     (λ c. search rules)
-    (λ c. search (insert-front-done, shown-lit))
+    (λ c. search (insert_front_done, shown_lit))
     (λ c κs. omega state)
     (λ c κs. omega state)
     (λ c. search rules)
@@ -37,4 +37,4 @@ insert-spec =
     (λ c κs. search rules)
     (λ c κs. search rules)
     (λ c. search rules)
-    (λ c. search (insert-back-done, shown-lit)))
+    (λ c. search (insert_back_done, shown_lit)))

@@ -2,23 +2,23 @@
 use borrow.Author.Rules.{rules}
 use Rattle.table.specs.Does.{does}
 use Rattle.table.proofs.Laws.Valid.{state}
-use Rattle.table.proofs.Laws.Shifted.{insert-front-done, insert-back-done}
-use Rattle.ring.proofs.Told.{refusals-within, more_within, shown-within}
+use Rattle.table.proofs.Laws.Shifted.{insert_front_done, insert_back_done}
+use Rattle.ring.proofs.Told.{refusals_within, more_within, shown_within}
 use Rattle.ring.proofs.Ring.insert_within.Statement.{statement}
 use Rattle.ring.proofs.Ring.insert_within.Tie as tie
 
-pub insert-within-spec : {M : Type 1} → statement M
+pub insert_within_spec : {M : Type 1} → statement M
 unfolding does
-insert-within-spec =
+insert_within_spec =
     tie.close
     (tie.spec
     (λ c κs. search rules)
     (λ c κs. search rules)
-    (λ c. search refusals-within)
+    (λ c. search refusals_within)
     (λ c κs. search rules)
-    (λ c. search refusals-within)
+    (λ c. search refusals_within)
     (λ c κs. search rules)
-    (λ c. search refusals-within)
+    (λ c. search refusals_within)
     (λ c κs. search rules)
     (λ c. search more_within)  -- those before i are too many
     (λ c κs. omega state)
@@ -30,7 +30,7 @@ insert-within-spec =
     (λ c κs. search rules)
     (λ c κs. search rules)
     (λ c. search rules)
-    (λ c. search (insert-front-done, shown-within, c.before.before.before.before.before.before.before.before.before.before.before.before.before.invalid-ring.ensures))  -- that test stands far back
+    (λ c. search (insert_front_done, shown_within, c.before.before.before.before.before.before.before.before.before.before.before.before.before.invalid_ring.ensures))  -- that test stands far back
     (λ c κs. search rules)
     (λ c. search more_within)  -- those from i on are too many
     (λ c κs. omega state)
@@ -41,4 +41,4 @@ insert-within-spec =
     (λ c κs. search rules)
     (λ c κs. search rules)
     (λ c. search rules)
-    (λ c. search (insert-back-done, shown-within)))
+    (λ c. search (insert_back_done, shown_within)))

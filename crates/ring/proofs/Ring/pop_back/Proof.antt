@@ -2,14 +2,14 @@
 use borrow.Author.Rules.{rules}
 use Rattle.table.specs.Does.{does}
 use Rattle.table.proofs.Laws.Valid.{state}
-use Rattle.table.proofs.Laws.Stores.{pop-done}
-use Rattle.ring.proofs.Told.{refusals, shown-lit}
+use Rattle.table.proofs.Laws.Stores.{pop_done}
+use Rattle.ring.proofs.Told.{refusals, shown_lit}
 use Rattle.ring.proofs.Ring.pop_back.Statement.{statement}
 use Rattle.ring.proofs.Ring.pop_back.Tie as tie
 
-pub pop-back-spec : {M : Type 1} → statement M
+pub pop_back_spec : {M : Type 1} → statement M
 unfolding does
-pop-back-spec =
+pop_back_spec =
     tie.close
     (tie.spec
     (λ c κs. search rules)
@@ -28,4 +28,4 @@ pop-back-spec =
     (λ c κs. search rules)
     (λ c κs. search rules)
     (λ c. search rules)
-    (λ c. search (pop-done, shown-lit)))
+    (λ c. search (pop_done, shown_lit)))

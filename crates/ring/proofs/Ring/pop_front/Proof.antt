@@ -2,14 +2,14 @@
 use borrow.Author.Rules.{rules}
 use Rattle.table.specs.Does.{does}
 use Rattle.table.proofs.Laws.Valid.{state}
-use Rattle.table.proofs.Laws.Stores.{pop-front-done}
-use Rattle.ring.proofs.Told.{refusals, shown-lit}
+use Rattle.table.proofs.Laws.Stores.{pop_front_done}
+use Rattle.ring.proofs.Told.{refusals, shown_lit}
 use Rattle.ring.proofs.Ring.pop_front.Statement.{statement}
 use Rattle.ring.proofs.Ring.pop_front.Tie as tie
 
-pub pop-front-spec : {M : Type 1} → statement M
+pub pop_front_spec : {M : Type 1} → statement M
 unfolding does
-pop-front-spec =
+pop_front_spec =
     tie.close
     (tie.spec
     (λ c κs. search rules)
@@ -27,4 +27,4 @@ pop-front-spec =
     (λ c κs. search rules)
     (λ c κs. search rules)
     (λ c. search rules)
-    (λ c. search (pop-front-done, shown-lit)))
+    (λ c. search (pop_front_done, shown_lit)))

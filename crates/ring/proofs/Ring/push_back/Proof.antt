@@ -2,14 +2,14 @@
 use borrow.Author.Rules.{rules}
 use Rattle.table.specs.Does.{does}
 use Rattle.table.proofs.Laws.Valid.{state}
-use Rattle.table.proofs.Laws.Stores.{push-done}
-use Rattle.ring.proofs.Told.{refusals, shown-lit}
+use Rattle.table.proofs.Laws.Stores.{push_done}
+use Rattle.ring.proofs.Told.{refusals, shown_lit}
 use Rattle.ring.proofs.Ring.push_back.Statement.{statement}
 use Rattle.ring.proofs.Ring.push_back.Tie as tie
 
-pub push-back-spec : {M : Type 1} → statement M
+pub push_back_spec : {M : Type 1} → statement M
 unfolding does
-push-back-spec =
+push_back_spec =
     tie.close
     (tie.spec
     (λ c κs. search rules)
@@ -25,4 +25,4 @@ push-back-spec =
     (λ c κs. search rules)
     (λ c κs. search rules)
     (λ c. search rules)
-    (λ c. search (push-done, shown-lit)))
+    (λ c. search (push_done, shown_lit)))

@@ -2,14 +2,14 @@
 use borrow.Author.Rules.{rules}
 use Rattle.table.specs.Does.{does}
 use Rattle.table.proofs.Laws.Valid.{state}
-use Rattle.table.proofs.Laws.Stores.{push-front-done}
-use Rattle.ring.proofs.Told.{refusals, shown-lit}
+use Rattle.table.proofs.Laws.Stores.{push_front_done}
+use Rattle.ring.proofs.Told.{refusals, shown_lit}
 use Rattle.ring.proofs.Ring.push_front.Statement.{statement}
 use Rattle.ring.proofs.Ring.push_front.Tie as tie
 
-pub push-front-spec : {M : Type 1} → statement M
+pub push_front_spec : {M : Type 1} → statement M
 unfolding does
-push-front-spec =
+push_front_spec =
     tie.close
     (tie.spec
     (λ c κs. search rules)
@@ -25,4 +25,4 @@ push-front-spec =
     (λ c κs. search rules)
     (λ c κs. search rules)
     (λ c. search rules)
-    (λ c. search (push-front-done, shown-lit)))
+    (λ c. search (push_front_done, shown_lit)))

@@ -3,7 +3,7 @@ use borrow.Author.Rules.{rules}
 use Rattle.table.specs.Does.{does}
 use Rattle.table.proofs.Laws.Valid.{state}
 use Rattle.table.proofs.Laws.Looks.{read_done}
-use Rattle.ring.proofs.Told.{refusals, stays-lit}
+use Rattle.ring.proofs.Told.{refusals, stays_lit}
 use Rattle.ring.proofs.Ring.read.Statement.{statement}
 use Rattle.ring.proofs.Ring.read.Tie as tie
 
@@ -23,4 +23,4 @@ read_spec =
     (λ c. search rules)
     (λ c κs. search rules)
     (λ c κs. search rules)
-    (λ c. search (read_done, stays-lit, c.before.before.before.before.before.before.before.well-formed)))
+    (λ c. search (read_done, stays_lit, c.before.before.before.before.before.before.before.well_formed)))

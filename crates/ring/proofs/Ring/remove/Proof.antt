@@ -2,14 +2,14 @@
 use borrow.Author.Rules.{rules}
 use Rattle.table.specs.Does.{does}
 use Rattle.table.proofs.Laws.Valid.{state}
-use Rattle.table.proofs.Laws.Shifted.{remove-front-done, remove-back-done}
-use Rattle.ring.proofs.Told.{refusals, shown-lit}
+use Rattle.table.proofs.Laws.Shifted.{remove_front_done, remove_back_done}
+use Rattle.ring.proofs.Told.{refusals, shown_lit}
 use Rattle.ring.proofs.Ring.remove.Statement.{statement}
 use Rattle.ring.proofs.Ring.remove.Tie as tie
 
-pub remove-spec : {M : Type 1} → statement M
+pub remove_spec : {M : Type 1} → statement M
 unfolding does
-remove-spec =
+remove_spec =
     tie.close
     (tie.spec
     (λ c κs. search rules)
@@ -30,7 +30,7 @@ remove-spec =
     (λ c κs. search rules)
     (λ c κs. search rules)
     (λ c. search rules)
-    (λ c. search (remove-front-done, shown-lit))
+    (λ c. search (remove_front_done, shown_lit))
     (λ c κs. omega state)
     (λ c κs. omega state)
     (λ c. search rules)
@@ -39,4 +39,4 @@ remove-spec =
     (λ c κs. search rules)
     (λ c κs. search rules)
     (λ c. search rules)
-    (λ c. search (remove-back-done, shown-lit)))
+    (λ c. search (remove_back_done, shown_lit)))

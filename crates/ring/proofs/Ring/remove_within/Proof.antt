@@ -2,22 +2,22 @@
 use borrow.Author.Rules.{rules}
 use Rattle.table.specs.Does.{does}
 use Rattle.table.proofs.Laws.Valid.{state}
-use Rattle.table.proofs.Laws.Shifted.{remove-front-done, remove-back-done}
-use Rattle.ring.proofs.Told.{refusals-within, more_within, shown-within}
+use Rattle.table.proofs.Laws.Shifted.{remove_front_done, remove_back_done}
+use Rattle.ring.proofs.Told.{refusals_within, more_within, shown_within}
 use Rattle.ring.proofs.Ring.remove_within.Statement.{statement}
 use Rattle.ring.proofs.Ring.remove_within.Tie as tie
 
-pub remove-within-spec : {M : Type 1} → statement M
+pub remove_within_spec : {M : Type 1} → statement M
 unfolding does
-remove-within-spec =
+remove_within_spec =
     tie.close
     (tie.spec
     (λ c κs. search rules)
     (λ c κs. search rules)
     (λ c κs. search rules)
-    (λ c. search refusals-within)
+    (λ c. search refusals_within)
     (λ c κs. search rules)
-    (λ c. search refusals-within)
+    (λ c. search refusals_within)
     (λ c. omega state)
     (λ c κs. omega state)
     (λ c. search rules)
@@ -32,7 +32,7 @@ remove-within-spec =
     (λ c κs. search rules)
     (λ c κs. search rules)
     (λ c. search rules)
-    (λ c. search (remove-front-done, shown-within))
+    (λ c. search (remove_front_done, shown_within))
     (λ c. omega state)  -- those behind i are counted
     (λ c κs. search rules)
     (λ c. search more_within)  -- they are too many
@@ -44,4 +44,4 @@ remove-within-spec =
     (λ c κs. search rules)
     (λ c κs. search rules)
     (λ c. search rules)
-    (λ c. search (remove-back-done, shown-within)))
+    (λ c. search (remove_back_done, shown_within)))

@@ -2,7 +2,7 @@
 use borrow.Author.Rules.{rules}
 use Rattle.table.specs.Does.{does}
 use Rattle.table.proofs.Laws.Valid.{state}
-use Rattle.table.proofs.Laws.Cut.{resize-cut-done, resize-more-done, resize-same-done}
+use Rattle.table.proofs.Laws.Cut.{resize_cut_done, resize_more_done, resize_same_done}
 use Rattle.ring.proofs.Told.{refusals, stays, shown}
 use Rattle.ring.proofs.Ring.resize.Statement.{statement}
 use Rattle.ring.proofs.Ring.resize.Tie as tie
@@ -21,12 +21,12 @@ resize_spec =
     (λ c κs. search rules)
     (λ c κs. search rules)
     (λ c. search rules)
-    (λ c. search (resize-cut-done, shown))
+    (λ c. search (resize_cut_done, shown))
     (λ c κs. omega state)
     (λ c κs. search rules)
     (λ c κs. omega state)
     (λ c κs. search rules)
     (λ c. search rules)
-    (λ c. search (resize-more-done, shown))
+    (λ c. search (resize_more_done, shown))
     (λ c κs. search rules)
-    (λ c. search (resize-same-done, stays)))
+    (λ c. search (resize_same_done, stays)))

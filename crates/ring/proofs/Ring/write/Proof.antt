@@ -3,7 +3,7 @@ use borrow.Author.Rules.{rules}
 use Rattle.table.specs.Does.{does}
 use Rattle.table.proofs.Laws.Valid.{state}
 use Rattle.table.proofs.Laws.Stores.{write_done}
-use Rattle.ring.proofs.Told.{refusals, shown-lit}
+use Rattle.ring.proofs.Told.{refusals, shown_lit}
 use Rattle.ring.proofs.Ring.write.Statement.{statement}
 use Rattle.ring.proofs.Ring.write.Tie as tie
 
@@ -27,4 +27,4 @@ write_spec =
     (λ c κs. search rules)
     (λ c κs. search rules)
     (λ c. search rules)
-    (λ c. search (write_done, shown-lit)))
+    (λ c. search (write_done, shown_lit)))

@@ -1,12 +1,12 @@
 -- `runs::bring::bring_ring` meets its promise: the positions stand in one run of slots, or in one to the last slot and one from slot 0.
 use Rattle.std.proofs.Common.{arith, length-take, rules}
-use Rattle.slots.proofs.Totals.{sum-straight, sum-around}
-use Rattle.slots.proofs.Brings.{bring-straight, bring-around}
+use Rattle.slots.proofs.Totals.{sum_straight, sum_around}
+use Rattle.slots.proofs.Brings.{bring_straight, bring_around}
 use Rattle.runs.proofs.bring.bring_ring.Statement.{statement}
 use Rattle.runs.proofs.bring.bring_ring.Tie as tie
 
-pub bring-ring-spec : {M : Type 1} → statement M
-bring-ring-spec =
+pub bring_ring_spec : {M : Type 1} → statement M
+bring_ring_spec =
     tie.close
     (tie.spec
     (λ c κs. search rules)
@@ -15,7 +15,7 @@ bring-ring-spec =
     (λ c. search rules)
     (λ c κs. search rules)
     (λ c. search rules)
-    (λ c. (search bring-straight, search sum-straight))
+    (λ c. (search bring_straight, search sum_straight))
     (λ c. search rules)
     (λ c. search rules)
     (λ c. search rules)
@@ -26,4 +26,4 @@ bring-ring-spec =
     (λ c κs. (simp length-take (omega arith), simp length-take (omega arith)))
     (λ c. search rules)
     (λ c. search rules)
-    (λ c. (search bring-around, search sum-around)))
+    (λ c. (search bring_around, search sum_around)))

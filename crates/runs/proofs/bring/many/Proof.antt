@@ -3,36 +3,36 @@ use Rattle.std.proofs.Common.{◌≡◌, ◌-◌, ◌*◌, ◌%◌, ◌^◌, ◌
 use Rattle.slots.specs.Layout.{itself}
 use Rattle.slots.specs.Copy.{Laid}
 use Rattle.slots.specs.Total.{total}
-use Rattle.slots.proofs.Totals.{total-none}
-use Rattle.slots.proofs.Halves.{highs, no-highs, highs-more, wrapped-more, by-halves}
-use Rattle.slots.proofs.Lays.{lay-none, run-lay-more, run-lay-all}
+use Rattle.slots.proofs.Totals.{total_none}
+use Rattle.slots.proofs.Halves.{highs, no_highs, highs_more, wrapped_more, by_halves}
+use Rattle.slots.proofs.Lays.{lay_none, run_lay_more, run_lay_all}
 use Rattle.runs.proofs.bring.many.Statement.{statement}
 use Rattle.runs.proofs.bring.many.Tie as tie
 
-abbrev invariant-loop : tie.invariant-loop
-invariant-loop slots₀ at part n sum₀ high₀ k₀ slots sum high k =
+abbrev invariant_loop : tie.invariant_loop
+invariant_loop slots₀ at part n sum₀ high₀ k₀ slots sum high k =
     (k ≤ length part) × Laid itself at k part slots₀ slots × (sum ≡ total (take k part) % 2 ^ 32) × (high ≡ highs (take k part)) × (high ≤ 65536 * k)
 
-abbrev decreases-loop : tie.decreases-loop
-decreases-loop slots₀ at part n sum₀ high₀ k₀ slots sum high k = length part - k
+abbrev decreases_loop : tie.decreases_loop
+decreases_loop slots₀ at part n sum₀ high₀ k₀ slots sum high k = length part - k
 
-pub many-spec : {M : Type 1} → statement M
-many-spec =
+pub many_spec : {M : Type 1} → statement M
+many_spec =
     tie.close
     (tie.spec
-    invariant-loop
-    decreases-loop
-    (λ c. (search rules, search lay-none, omega (arith, total-none), sym no-highs, search rules))
+    invariant_loop
+    decreases_loop
+    (λ c. (search rules, search lay_none, omega (arith, total_none), sym no_highs, search rules))
     (λ c. search rules)
     (λ c. search rules)
     (λ c. search rules)
     (λ c. search rules)
     (λ c. search rules)
     (λ c κs. search rules)
-    (λ c. omega (arith, c.before.shared-slice-known2.given c.before.before.before.loop.k))
+    (λ c. omega (arith, c.before.shared_slice_known2.given c.before.before.before.loop.k))
     (λ c. search rules)
     (λ c. search rules)
-    (λ c. (search rules, search (run-lay-more, rules), c.wrapping-add-u32.ensures ∙ search (wrapped-more, rules), search (highs-more, rules), omega (arith, c.before.shared-slice-known2.given c.before.before.before.loop.k)))
+    (λ c. (search rules, search (run_lay_more, rules), c.wrapping_add_u32.ensures ∙ search (wrapped_more, rules), search (highs_more, rules), omega (arith, c.before.shared_slice_known2.given c.before.before.before.loop.k)))
     (λ c. search rules)
     (λ c κs. search rules)
     (λ c. search rules)
@@ -40,4 +40,4 @@ many-spec =
     (λ c. search rules)
     (λ c. search rules)
     (λ c. search rules)
-    (λ c. (search run-lay-all, search (by-halves, rules), search rules)))
+    (λ c. (search run_lay_all, search (by_halves, rules), search rules)))

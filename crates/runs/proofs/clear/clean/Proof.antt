@@ -3,36 +3,36 @@ use Rattle.std.proofs.Common.{◌≡◌, ◌-◌, ◌*◌, ◌%◌, ◌^◌, ◌
 use Rattle.slots.specs.Layout.{itself}
 use Rattle.slots.specs.Shift.{Filled}
 use Rattle.slots.specs.Total.{total}
-use Rattle.slots.proofs.Fills.{fill_none, fill-turn, fill_end}
-use Rattle.slots.proofs.Halves.{highs, no-highs, no-wrapped, filled-highs-more, filled-wrapped-more, by-halves}
+use Rattle.slots.proofs.Fills.{fill_none, fill_turn, fill_end}
+use Rattle.slots.proofs.Halves.{highs, no_highs, no_wrapped, filled_highs_more, filled_wrapped_more, by_halves}
 use Rattle.runs.proofs.clear.clean.Statement.{statement}
 use Rattle.runs.proofs.clear.clean.Tie as tie
 
-abbrev invariant-loop : tie.invariant-loop
-invariant-loop part₀ n sum₀ high₀ i₀ part sum high i =
+abbrev invariant_loop : tie.invariant_loop
+invariant_loop part₀ n sum₀ high₀ i₀ part sum high i =
     (i ≤ length part₀) × (sum ≡ total (take i part₀) % 2 ^ 32) × (high ≡ highs (take i part₀)) × (high ≤ 65535 * i) × Filled itself 0 i 0 part₀ part
 
-abbrev decreases-loop : tie.decreases-loop
-decreases-loop part₀ n sum₀ high₀ i₀ part sum high i = length part₀ - i
+abbrev decreases_loop : tie.decreases_loop
+decreases_loop part₀ n sum₀ high₀ i₀ part sum high i = length part₀ - i
 
-pub clean-spec : {M : Type 1} → statement M
-clean-spec =
+pub clean_spec : {M : Type 1} → statement M
+clean_spec =
     tie.close
     (tie.spec
-    invariant-loop
-    decreases-loop
-    (λ c. (search rules, no-wrapped, sym no-highs, search rules, search fill_none))
+    invariant_loop
+    decreases_loop
+    (λ c. (search rules, no_wrapped, sym no_highs, search rules, search fill_none))
     (λ c. search rules)
     (λ c. search rules)
     (λ c κs. search rules)
     (λ c. search rules)
     (λ c. search rules)
-    (λ c. omega (arith, c.slice-known3.given c.before.before.before.before.loop.i))
+    (λ c. omega (arith, c.slice_known3.given c.before.before.before.before.loop.i))
     (λ c. search rules)
     (λ c. search rules)
     (λ c. search rules)
     (λ c. search rules)
-    (λ c. (search rules, search filled-wrapped-more, search filled-highs-more, omega (arith, c.slice-known3.given c.before.before.before.before.loop.i), search (fill-turn, rules)))
+    (λ c. (search rules, search filled_wrapped_more, search filled_highs_more, omega (arith, c.slice_known3.given c.before.before.before.before.loop.i), search (fill_turn, rules)))
     (λ c. search rules)
     (λ c κs. search rules)
     (λ c. search rules)
@@ -40,4 +40,4 @@ clean-spec =
     (λ c. search rules)
     (λ c. search rules)
     (λ c. search rules)
-    (λ c. (search by-halves, search fill_end, search rules)))
+    (λ c. (search by_halves, search fill_end, search rules)))

@@ -1,12 +1,12 @@
 -- `runs::clear::run_clear` meets its promise: a part of the slots is lent, added up and filled with 0.
 use Rattle.std.proofs.Common.{rules}
-use Rattle.slots.proofs.Parts.{fill-back}
-use Rattle.slots.proofs.Totals.{sum-run}
+use Rattle.slots.proofs.Parts.{fill_back}
+use Rattle.slots.proofs.Totals.{sum_run}
 use Rattle.runs.proofs.clear.run_clear.Statement.{statement}
 use Rattle.runs.proofs.clear.run_clear.Tie as tie
 
-pub run-clear-spec : {M : Type 1} → statement M
-run-clear-spec =
+pub run_clear_spec : {M : Type 1} → statement M
+run_clear_spec =
     tie.close
     (tie.spec
     (λ c. search rules)
@@ -15,4 +15,4 @@ run-clear-spec =
     (λ c. search rules)
     (λ c κs. search rules)
     (λ c. search rules)
-    (λ c. (search sum-run, search fill-back, search rules)))
+    (λ c. (search sum_run, search fill_back, search rules)))

@@ -1,22 +1,22 @@
 -- `runs::compare::four` meets its promise: after j numbers it says whether all of them agree.
 use Rattle.std.proofs.Common.{◌-◌, ◌≤◌, take, drop, rules}
 use Rattle.slots.specs.Compare.{Tells}
-use Rattle.slots.proofs.Compares.{block_none, block_more, block-all}
+use Rattle.slots.proofs.Compares.{block_none, block_more, block_all}
 use Rattle.runs.proofs.compare.four.Statement.{statement}
 use Rattle.runs.proofs.compare.four.Tie as tie
 
-abbrev invariant-loop : tie.invariant-loop
-invariant-loop ours theirs at alike₀ j₀ alike j = (j ≤ 4) × Tells alike (take j (drop at ours)) (take j (drop at theirs))
+abbrev invariant_loop : tie.invariant_loop
+invariant_loop ours theirs at alike₀ j₀ alike j = (j ≤ 4) × Tells alike (take j (drop at ours)) (take j (drop at theirs))
 
-abbrev decreases-loop : tie.decreases-loop
-decreases-loop ours theirs at alike₀ j₀ alike j = 4 - j
+abbrev decreases_loop : tie.decreases_loop
+decreases_loop ours theirs at alike₀ j₀ alike j = 4 - j
 
-pub four-spec : {M : Type 1} → statement M
-four-spec =
+pub four_spec : {M : Type 1} → statement M
+four_spec =
     tie.close
     (tie.spec
-    invariant-loop
-    decreases-loop
+    invariant_loop
+    decreases_loop
     (λ c. search (block_none, rules))
     (λ c. search rules)
     (λ c. search rules)
@@ -27,4 +27,4 @@ four-spec =
     (λ c. search rules)
     (λ c. search rules)
     (λ c. search (block_more, rules))
-    (λ c. search (block-all, rules)))
+    (λ c. search (block_all, rules)))

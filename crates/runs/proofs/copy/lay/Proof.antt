@@ -1,18 +1,18 @@
 -- `runs::copy::lay` meets its promise: a run of slots is a run of positions, and past the last slot a second run goes on at slot 0.
 use Rattle.std.proofs.Common.{rules}
-use Rattle.slots.proofs.Lays.{lay-straight, lay-around}
+use Rattle.slots.proofs.Lays.{lay_straight, lay_around}
 use Rattle.runs.proofs.copy.lay.Statement.{statement}
 use Rattle.runs.proofs.copy.lay.Tie as tie
 
-pub lay-spec : {M : Type 1} → statement M
-lay-spec =
+pub lay_spec : {M : Type 1} → statement M
+lay_spec =
     tie.close
     (tie.spec
     (λ c κs. search rules)
     (λ c. search rules)
     (λ c κs. search rules)
     (λ c. search rules)
-    (λ c. search lay-straight)
+    (λ c. search lay_straight)
     (λ c κs. search rules)
     (λ c. search rules)
     (λ c. search rules)
@@ -21,4 +21,4 @@ lay-spec =
     (λ c. search rules)
     (λ c κs. search rules)
     (λ c. search rules)
-    (λ c. search lay-around))
+    (λ c. search lay_around))

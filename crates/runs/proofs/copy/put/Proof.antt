@@ -2,23 +2,23 @@
 use Rattle.std.proofs.Common.{◌-◌, ◌≤◌, rules}
 use Rattle.slots.specs.Layout.{itself}
 use Rattle.slots.specs.Copy.{Laid}
-use Rattle.slots.proofs.Lays.{lay-none, run-lay-more, run-lay-all}
+use Rattle.slots.proofs.Lays.{lay_none, run_lay_more, run_lay_all}
 use Rattle.runs.proofs.copy.put.Statement.{statement}
 use Rattle.runs.proofs.copy.put.Tie as tie
 
-abbrev invariant-loop : tie.invariant-loop
-invariant-loop slots₀ at part count k₀ slots k = (k ≤ count) × Laid itself at k part slots₀ slots
+abbrev invariant_loop : tie.invariant_loop
+invariant_loop slots₀ at part count k₀ slots k = (k ≤ count) × Laid itself at k part slots₀ slots
 
-abbrev decreases-loop : tie.decreases-loop
-decreases-loop slots₀ at part count k₀ slots k = count - k
+abbrev decreases_loop : tie.decreases_loop
+decreases_loop slots₀ at part count k₀ slots k = count - k
 
 pub put_spec : {M : Type 1} → statement M
 put_spec =
     tie.close
     (tie.spec
-    invariant-loop
-    decreases-loop
-    (λ c. search (lay-none, rules))
+    invariant_loop
+    decreases_loop
+    (λ c. search (lay_none, rules))
     (λ c. search rules)
     (λ c. search rules)
     (λ c. search rules)
@@ -26,6 +26,6 @@ put_spec =
     (λ c. search rules)
     (λ c. search rules)
     (λ c. search rules)
-    (λ c. search (run-lay-more, rules))
+    (λ c. search (run_lay_more, rules))
     (λ c. search rules)
-    (λ c. search run-lay-all))
+    (λ c. search run_lay_all))

@@ -4,5 +4,5 @@ use Rattle.slots.proofs.Totals.{subtracted}
 use Rattle.runs.proofs.total.less.Statement.{statement}
 use Rattle.runs.proofs.total.less.Tie as tie
 
-pub less-spec : {M : Type 1} → statement M
-less-spec = tie.close (tie.spec (λ c κs. search rules) (λ c. search (subtracted, rules)))
+pub less_spec : {M : Type 1} → statement M
+less_spec = tie.close (tie.spec (λ c κs. search rules) (λ c. search (subtracted, rules)))

@@ -1,6 +1,6 @@
 -- `runs::total::run` meets its promise: a part of the slots is lent and added up.
 use Rattle.std.proofs.Common.{rules}
-use Rattle.slots.proofs.Totals.{sum-run}
+use Rattle.slots.proofs.Totals.{sum_run}
 use Rattle.runs.proofs.total.run.Statement.{statement}
 use Rattle.runs.proofs.total.run.Tie as tie
 
@@ -13,4 +13,4 @@ run_spec =
     (λ c. search rules)
     (λ c. search rules)
     (λ c κs. search rules)
-    (λ c. search sum-run))
+    (λ c. search sum_run))

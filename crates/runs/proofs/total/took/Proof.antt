@@ -4,5 +4,5 @@ use Rattle.slots.proofs.Totals.{subtracted}
 use Rattle.runs.proofs.total.took.Statement.{statement}
 use Rattle.runs.proofs.total.took.Tie as tie
 
-pub took-spec : {M : Type 1} → statement M
-took-spec = tie.close (tie.spec (λ c κs. search rules) (λ c. search (subtracted, rules)))
+pub took_spec : {M : Type 1} → statement M
+took_spec = tie.close (tie.spec (λ c κs. search rules) (λ c. search (subtracted, rules)))

@@ -4,5 +4,5 @@ use Rattle.slots.proofs.Totals.{traded}
 use Rattle.runs.proofs.total.traded.Statement.{statement}
 use Rattle.runs.proofs.total.traded.Tie as tie
 
-pub traded-spec : {M : Type 1} → statement M
-traded-spec = tie.close (tie.spec (λ c κs. search rules) (λ c κs. search rules) (λ c. search (traded, rules)))
+pub traded_spec : {M : Type 1} → statement M
+traded_spec = tie.close (tie.spec (λ c κs. search rules) (λ c κs. search rules) (λ c. search (traded, rules)))

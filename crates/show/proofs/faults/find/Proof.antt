@@ -1,6 +1,6 @@
 -- `find` meets its promise: the first of the three that is a fault.
 use borrow.Author.Rules.{rules}
-use Rattle.show.proofs.Finding.{line-was, find-line, find_first, find-slots}
+use Rattle.show.proofs.Finding.{line_was, find_line, find_first, find_slots}
 use Rattle.show.proofs.faults.find.Statement.{statement}
 use Rattle.show.proofs.faults.find.Tie as tie
 
@@ -9,9 +9,9 @@ find_spec =
     tie.close
     (tie.spec
     (λ c κs. search rules)
-    (λ c. search (find-line, rules))
-    (λ c κs. search (line-was, rules))
+    (λ c. search (find_line, rules))
+    (λ c κs. search (line_was, rules))
     (λ c. search (find_first, rules))
-    (λ c κs. (search (line-was, rules), search rules))
+    (λ c κs. (search (line_was, rules), search rules))
     (λ c κs. search rules)
-    (λ c. search (find-slots, rules)))
+    (λ c. search (find_slots, rules)))

@@ -3,33 +3,33 @@ use Prim.Native.Nat.{◌+◌, ◌≤◌}
 use mathlib.Core.Path.{◌≡◌}
 use borrow.Author.Rules.{rules}
 use lib.ListN.{drop}
-use Rattle.show.specs.Faults.{slotsFault}
-use Rattle.show.proofs.Finding.{slots-turn, slots-stop, slots-more, slots_end}
+use Rattle.show.specs.Faults.{slots_fault}
+use Rattle.show.proofs.Finding.{slots_turn, slots_stop, slots_more, slots_end}
 use Rattle.show.proofs.faults.slots_fault.Statement.{statement}
 use Rattle.show.proofs.faults.slots_fault.Tie as tie
 
-abbrev invariant-loop : tie.invariant-loop
-invariant-loop text from count left₀ at₀ line₀ left at line = (line + left ≤ 65538) × (slotsFault line left (drop at text) ≡ slotsFault 2 count (drop from text))
+abbrev invariant_loop : tie.invariant_loop
+invariant_loop text from count left₀ at₀ line₀ left at line = (line + left ≤ 65538) × (slots_fault line left (drop at text) ≡ slots_fault 2 count (drop from text))
 
-abbrev decreases-loop : tie.decreases-loop
-decreases-loop text from count left₀ at₀ line₀ left at line = left
+abbrev decreases_loop : tie.decreases_loop
+decreases_loop text from count left₀ at₀ line₀ left at line = left
 
-pub slots-fault-spec : {M : Type 1} → statement M
-slots-fault-spec =
+pub slots_fault_spec : {M : Type 1} → statement M
+slots_fault_spec =
     tie.close
     (tie.spec
-    invariant-loop
-    decreases-loop
+    invariant_loop
+    decreases_loop
     (λ c. search rules)
     (λ c κs. search rules)
     (λ c κs. search rules)
     (λ c. search rules)
     (λ c. search rules)
     (λ c. search rules)
-    (λ c. search (slots-turn, rules))
+    (λ c. search (slots_turn, rules))
     (λ c κs. search rules)
-    (λ c. search (slots-stop, rules))
+    (λ c. search (slots_stop, rules))
     (λ c κs. search rules)
-    (λ c. search (slots-more, rules))
+    (λ c. search (slots_more, rules))
     (λ c κs. search rules)
     (λ c. search (slots_end, rules)))

@@ -5,29 +5,29 @@ use native.Mathlib.Omega.{arith}
 use borrow.Author.Rules.{rules}
 use lib.ListN.{length, drop}
 use Rattle.show.specs.Rows.{largest}
-use Rattle.show.proofs.Drawn.{largest-start, largest-turn, largest-end}
+use Rattle.show.proofs.Drawn.{largest_start, largest_turn, largest_end}
 use Rattle.show.proofs.rows.largest_in.Statement.{statement}
 use Rattle.show.proofs.rows.largest_in.Tie as tie
 
-abbrev invariant-loop : tie.invariant-loop
-invariant-loop slots m₀ i₀ m i = (i ≤ length slots) × (largest m (drop i slots) ≡ largest (length slots - 1) slots)
+abbrev invariant_loop : tie.invariant_loop
+invariant_loop slots m₀ i₀ m i = (i ≤ length slots) × (largest m (drop i slots) ≡ largest (length slots - 1) slots)
 
-abbrev decreases-loop : tie.decreases-loop
-decreases-loop slots m₀ i₀ m i = length slots - i
+abbrev decreases_loop : tie.decreases_loop
+decreases_loop slots m₀ i₀ m i = length slots - i
 
-pub largest-in-spec : {M : Type 1} → statement M
-largest-in-spec =
+pub largest_in_spec : {M : Type 1} → statement M
+largest_in_spec =
     tie.close
     (tie.spec
-    invariant-loop
-    decreases-loop
+    invariant_loop
+    decreases_loop
     (λ c κs. search rules)
-    (λ c. search (largest-start, rules))
+    (λ c. search (largest_start, rules))
     (λ c. search rules)
     (λ c. search rules)
-    (λ c. omega (arith, c.shared-slice-known2.given c.before.before.loop.i))
+    (λ c. omega (arith, c.shared_slice_known2.given c.before.before.loop.i))
     (λ c κs. search rules)
     (λ c. search rules)
     (λ c. search rules)
-    (λ c. search (largest-turn, rules))
-    (λ c. search (largest-end, rules)))
+    (λ c. search (largest_turn, rules))
+    (λ c. search (largest_end, rules)))

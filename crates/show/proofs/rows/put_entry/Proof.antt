@@ -1,11 +1,11 @@
 -- `put_entry` meets its promise: the pieces, one behind another; no comma behind the last.
 use borrow.Author.Rules.{rules}
-use Rattle.show.proofs.Drawn.{entry_more, entry-last}
+use Rattle.show.proofs.Drawn.{entry_more, entry_last}
 use Rattle.show.proofs.rows.put_entry.Statement.{statement}
 use Rattle.show.proofs.rows.put_entry.Tie as tie
 
-pub put-entry-spec : {M : Type 1} → statement M
-put-entry-spec =
+pub put_entry_spec : {M : Type 1} → statement M
+put_entry_spec =
     tie.close
     (tie.spec
     (λ c. search rules)
@@ -16,4 +16,4 @@ put-entry-spec =
     (λ c. search rules)
     (λ c. search (entry_more, rules))
     (λ c. search rules)
-    (λ c. search (entry-last, rules)))
+    (λ c. search (entry_last, rules)))

@@ -1,11 +1,11 @@
 -- `put_held_row` meets its promise: the pieces, one behind another.
 use borrow.Author.Rules.{rules}
-use Rattle.show.proofs.Drawn.{held-row}
+use Rattle.show.proofs.Drawn.{held_row_law}
 use Rattle.show.proofs.rows.put_held_row.Statement.{statement}
 use Rattle.show.proofs.rows.put_held_row.Tie as tie
 
-pub put-held-row-spec : {M : Type 1} → statement M
-put-held-row-spec =
+pub put_held_row_spec : {M : Type 1} → statement M
+put_held_row_spec =
     tie.close
     (tie.spec
     (λ c. search rules)
@@ -14,4 +14,4 @@ put-held-row-spec =
     (λ c. search rules)
     (λ c κs. search rules)
     (λ c. search rules)
-    (λ c. search (held-row, rules)))
+    (λ c. search (held_row_law, rules)))

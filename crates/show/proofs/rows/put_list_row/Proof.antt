@@ -1,11 +1,11 @@
 -- `put_list_row` meets its promise: the pieces, one behind another.
 use borrow.Author.Rules.{rules}
-use Rattle.show.proofs.Drawn.{list-row}
+use Rattle.show.proofs.Drawn.{list_row_law}
 use Rattle.show.proofs.rows.put_list_row.Statement.{statement}
 use Rattle.show.proofs.rows.put_list_row.Tie as tie
 
-pub put-list-row-spec : {M : Type 1} → statement M
-put-list-row-spec =
+pub put_list_row_spec : {M : Type 1} → statement M
+put_list_row_spec =
     tie.close
     (tie.spec
     (λ c κs. search rules)
@@ -13,4 +13,4 @@ put-list-row-spec =
     (λ c. search rules)
     (λ c κs. search rules)
     (λ c. search rules)
-    (λ c. search (list-row, rules)))
+    (λ c. search (list_row_law, rules)))

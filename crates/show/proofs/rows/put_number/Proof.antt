@@ -2,12 +2,12 @@
 use native.Mathlib.Omega.{arith}
 use borrow.Author.Rules.{rules}
 use Rattle.words.proofs.Decimals.{few}
-use Rattle.show.proofs.Drawn.{number-wrote}
+use Rattle.show.proofs.Drawn.{number_wrote}
 use Rattle.show.proofs.rows.put_number.Statement.{statement}
 use Rattle.show.proofs.rows.put_number.Tie as tie
 
-pub put-number-spec : {M : Type 1} → statement M
-put-number-spec =
+pub put_number_spec : {M : Type 1} → statement M
+put_number_spec =
     tie.close
     (tie.spec
     (λ c κs. search rules)
@@ -15,4 +15,4 @@ put-number-spec =
     (λ c. search rules)
     (λ c κs. omega (arith, few _ _ c.before.before.before.before.before.ranges.n.fits c.before.before.decimal.ensures.1.0))
     (λ c. search rules)
-    (λ c. let d = c.before.before.before.before.before.decimal in (search (number-wrote, rules), omega (arith, few _ _ c.before.before.before.before.before.before.before.before.ranges.n.fits d.ensures.1.0, d.ensures.0.1))))
+    (λ c. let d = c.before.before.before.before.before.decimal in (search (number_wrote, rules), omega (arith, few _ _ c.before.before.before.before.before.before.before.before.ranges.n.fits d.ensures.1.0, d.ensures.0.1))))

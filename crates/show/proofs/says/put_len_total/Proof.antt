@@ -4,8 +4,8 @@ use Rattle.show.proofs.Saying.{len-total-wrote}
 use Rattle.show.proofs.says.put_len_total.Statement.{statement}
 use Rattle.show.proofs.says.put_len_total.Tie as tie
 
-pub put-len-total-spec : {M : Type 1} → statement M
-put-len-total-spec =
+pub put_len_total_spec : {M : Type 1} → statement M
+put_len_total_spec =
     tie.close
     (tie.spec
     (λ c. search rules)

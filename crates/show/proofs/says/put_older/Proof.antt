@@ -1,11 +1,11 @@
 -- `put_older` meets its promise: the pieces, one behind the other.
 use borrow.Author.Rules.{rules}
-use Rattle.show.proofs.Saying.{older-wrote}
+use Rattle.show.proofs.Saying.{older_wrote}
 use Rattle.show.proofs.says.put_older.Statement.{statement}
 use Rattle.show.proofs.says.put_older.Tie as tie
 
-pub put-older-spec : {M : Type 1} → statement M
-put-older-spec =
+pub put_older_spec : {M : Type 1} → statement M
+put_older_spec =
     tie.close
     (tie.spec
     (λ c. search rules)
@@ -13,4 +13,4 @@ put-older-spec =
     (λ c. search rules)
     (λ c κs. search rules)
     (λ c. search rules)
-    (λ c. search (older-wrote, rules)))
+    (λ c. search (older_wrote, rules)))

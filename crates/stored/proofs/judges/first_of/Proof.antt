@@ -5,8 +5,8 @@ use Rattle.stored.proofs.Judging.{first_made}
 use Rattle.stored.proofs.judges.first_of.Statement.{statement}
 use Rattle.stored.proofs.judges.first_of.Tie as tie
 
-pub first-of-spec : {M : Type 1} → statement M
-first-of-spec =
+pub first_of_spec : {M : Type 1} → statement M
+first_of_spec =
     tie.close
     (tie.spec
     (λ c κs. search rules)

@@ -5,26 +5,26 @@ use mathlib.Core.Bool.{true}
 use mathlib.Core.List.{◌++◌}
 use borrow.Author.Rules.{rules}
 use lib.ListN.{length, take, drop}
-use Rattle.stored.specs.Judge.{areLines, numbers}
-use Rattle.stored.proofs.Taking.{none-off, none_read, eight, word_fits, slots-left, slots-turn, slots_end}
+use Rattle.stored.specs.Judge.{are_lines, numbers}
+use Rattle.stored.proofs.Taking.{none_off, none_read, eight, word_fits, slots_left, slots_turn, slots_end}
 use Rattle.stored.proofs.readers.take_slots.Statement.{statement}
 use Rattle.stored.proofs.readers.take_slots.Tie as tie
 
-abbrev invariant-loop : tie.invariant-loop
-invariant-loop text from slots₀ i₀ at₀ slots i at =
-    (i ≤ length slots₀) × (at ≡ from + 9 * i) × (length slots ≡ length slots₀) × (areLines (length slots₀ - i) (drop at text) ≡ true)
+abbrev invariant_loop : tie.invariant_loop
+invariant_loop text from slots₀ i₀ at₀ slots i at =
+    (i ≤ length slots₀) × (at ≡ from + 9 * i) × (length slots ≡ length slots₀) × (are_lines (length slots₀ - i) (drop at text) ≡ true)
     × (take i slots ++ numbers (length slots₀ - i) (drop at text) ≡ numbers (length slots₀) (drop from text))
 
-abbrev decreases-loop : tie.decreases-loop
-decreases-loop text from slots₀ i₀ at₀ slots i at = length slots₀ - i
+abbrev decreases_loop : tie.decreases_loop
+decreases_loop text from slots₀ i₀ at₀ slots i at = length slots₀ - i
 
-pub take-slots-spec : {M : Type 1} → statement M
-take-slots-spec =
+pub take_slots_spec : {M : Type 1} → statement M
+take_slots_spec =
     tie.close
     (tie.spec
-    invariant-loop
-    decreases-loop
-    (λ c. search (none-off, none_read, rules))
+    invariant_loop
+    decreases_loop
+    (λ c. search (none_off, none_read, rules))
     (λ c. search rules)
     (λ c. search rules)
     (λ c. search rules)
@@ -36,6 +36,6 @@ take-slots-spec =
     (λ c. search rules)
     (λ c. search rules)
     (λ c. search rules)
-    (λ c. search (slots-left, slots-turn, rules))
+    (λ c. search (slots_left, slots_turn, rules))
     (λ c. search rules)
     (λ c. search (slots_end, rules)))

@@ -3,13 +3,13 @@ use borrow.Author.Rules.{rules}
 use Rattle.tray_lines.proofs.acts.act.Statement.{statement}
 use Rattle.tray_lines.proofs.acts.act.Tie as tie
 
-pub act-spec : {M : Type 1} → statement M
-act-spec =
+pub act_spec : {M : Type 1} → statement M
+act_spec =
     tie.close
     (tie.spec
     (λ c. search rules)
     (λ c κs. search rules)
     (λ c. search rules)
     (λ c κs. search rules)
-    (λ c. simp (c.before.before.call.given.1, c.act-ring.ensures))
-    (λ c. simp (c.before.before.call2.given.1, c.act-vector.ensures)))
+    (λ c. simp (c.before.before.call.given.1, c.act_ring.ensures))
+    (λ c. simp (c.before.before.call2.given.1, c.act_vector.ensures)))

@@ -5,8 +5,8 @@ use Rattle.table.specs.Does.{Outcome}
 use Rattle.tray_lines.proofs.acts.new_ring.Statement.{statement}
 use Rattle.tray_lines.proofs.acts.new_ring.Tie as tie
 
-pub new-ring-spec : {M : Type 1} → statement M
-new-ring-spec =
+pub new_ring_spec : {M : Type 1} → statement M
+new_ring_spec =
     tie.close
     (tie.spec
     (λ c. search rules)

@@ -5,8 +5,8 @@ use Rattle.table.specs.Does.{Outcome}
 use Rattle.tray_lines.proofs.acts.new_vector.Statement.{statement}
 use Rattle.tray_lines.proofs.acts.new_vector.Tie as tie
 
-pub new-vector-spec : {M : Type 1} → statement M
-new-vector-spec =
+pub new_vector_spec : {M : Type 1} → statement M
+new_vector_spec =
     tie.close
     (tie.spec
     (λ c. search rules)

@@ -1,11 +1,11 @@
 -- `acts::on_ring` meets its promise: each arm is one call of the library, and its promise is the operation's.
 use borrow.Author.Rules.{rules}
-use Rattle.tray_lines.proofs.Doing.{ring-one, ring-two}
+use Rattle.tray_lines.proofs.Doing.{ring_one, ring_two}
 use Rattle.tray_lines.proofs.acts.on_ring.Statement.{statement}
 use Rattle.tray_lines.proofs.acts.on_ring.Tie as tie
 
-pub on-ring-spec : {M : Type 1} → statement M
-on-ring-spec =
+pub on_ring_spec : {M : Type 1} → statement M
+on_ring_spec =
     tie.close
     (tie.spec
     (λ c κs. search rules)
@@ -64,16 +64,16 @@ on-ring-spec =
     (λ c. search rules)
     (λ c κs. search rules)
     (λ c κs. search rules)
-    (λ c. search (ring-one, rules))
-    (λ c. search (ring-one, rules))
-    (λ c. search (ring-one, rules))
-    (λ c. search (ring-one, rules))
-    (λ c. search (ring-one, rules))
-    (λ c. search (ring-one, rules))
-    (λ c. search (ring-two, rules))
-    (λ c. search (ring-two, rules))
-    (λ c. search (ring-one, rules))
-    (λ c. search (ring-one, rules))
-    (λ c. search (ring-one, rules))
-    (λ c. search (ring-one, rules))
-    (λ c. search (ring-one, rules)))
+    (λ c. search (ring_one, rules))
+    (λ c. search (ring_one, rules))
+    (λ c. search (ring_one, rules))
+    (λ c. search (ring_one, rules))
+    (λ c. search (ring_one, rules))
+    (λ c. search (ring_one, rules))
+    (λ c. search (ring_two, rules))
+    (λ c. search (ring_two, rules))
+    (λ c. search (ring_one, rules))
+    (λ c. search (ring_one, rules))
+    (λ c. search (ring_one, rules))
+    (λ c. search (ring_one, rules))
+    (λ c. search (ring_one, rules)))

@@ -1,11 +1,11 @@
 -- `acts::on_vector` meets its promise: each arm is one call of the library, and its promise is the operation's.
 use borrow.Author.Rules.{rules}
-use Rattle.tray_lines.proofs.Doing.{vector-one, vector-two}
+use Rattle.tray_lines.proofs.Doing.{vector_one, vector_two}
 use Rattle.tray_lines.proofs.acts.on_vector.Statement.{statement}
 use Rattle.tray_lines.proofs.acts.on_vector.Tie as tie
 
-pub on-vector-spec : {M : Type 1} → statement M
-on-vector-spec =
+pub on_vector_spec : {M : Type 1} → statement M
+on_vector_spec =
     tie.close
     (tie.spec
     (λ c κs. search rules)
@@ -60,15 +60,15 @@ on-vector-spec =
     (λ c. search rules)
     (λ c κs. search rules)
     (λ c κs. search rules)
-    (λ c. search (vector-one, rules))
-    (λ c. search (vector-one, rules))
-    (λ c. search (vector-one, rules))
-    (λ c. search (vector-one, rules))
-    (λ c. search (vector-one, rules))
-    (λ c. search (vector-two, rules))
-    (λ c. search (vector-two, rules))
-    (λ c. search (vector-one, rules))
-    (λ c. search (vector-one, rules))
-    (λ c. search (vector-one, rules))
-    (λ c. search (vector-one, rules))
-    (λ c. search (vector-one, rules)))
+    (λ c. search (vector_one, rules))
+    (λ c. search (vector_one, rules))
+    (λ c. search (vector_one, rules))
+    (λ c. search (vector_one, rules))
+    (λ c. search (vector_one, rules))
+    (λ c. search (vector_two, rules))
+    (λ c. search (vector_two, rules))
+    (λ c. search (vector_one, rules))
+    (λ c. search (vector_one, rules))
+    (λ c. search (vector_one, rules))
+    (λ c. search (vector_one, rules))
+    (λ c. search (vector_one, rules)))

@@ -1,6 +1,6 @@
 -- `acts::start` meets its promise: four makings, one after another.
 use borrow.Author.Rules.{rules}
-use Rattle.tray_lines.proofs.Doing.{four-made}
+use Rattle.tray_lines.proofs.Doing.{four_made}
 use Rattle.tray_lines.proofs.acts.start.Statement.{statement}
 use Rattle.tray_lines.proofs.acts.start.Tie as tie
 
@@ -12,4 +12,4 @@ start_spec =
     (λ c κs. search rules)
     (λ c κs. search rules)
     (λ c κs. search rules)
-    (λ c. search (four-made, rules)))
+    (λ c. search (four_made, rules)))

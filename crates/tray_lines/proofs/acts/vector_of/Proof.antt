@@ -4,5 +4,5 @@ use Rattle.runs.proofs.Whole.{whole}
 use Rattle.tray_lines.proofs.acts.vector_of.Statement.{statement}
 use Rattle.tray_lines.proofs.acts.vector_of.Tie as tie
 
-pub vector-of-spec : {M : Type 1} → statement M
-vector-of-spec = tie.close (tie.spec (λ c κs. search rules) (λ c κs. search rules) (λ c. cc (whole _ _ c.before.none.ensures)))
+pub vector_of_spec : {M : Type 1} → statement M
+vector_of_spec = tie.close (tie.spec (λ c κs. search rules) (λ c κs. search rules) (λ c. cc (whole _ _ c.before.none.ensures)))

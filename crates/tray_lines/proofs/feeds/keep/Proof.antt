@@ -1,6 +1,6 @@
 -- `feeds::keep` meets its promise: a byte has room, or is past the seventeenth.
 use borrow.Author.Rules.{rules}
-use Rattle.tray_lines.proofs.Fed.{keep-more, keep-full}
+use Rattle.tray_lines.proofs.Fed.{keep_more, keep_full}
 use Rattle.tray_lines.proofs.feeds.keep.Statement.{statement}
 use Rattle.tray_lines.proofs.feeds.keep.Tie as tie
 
@@ -10,5 +10,5 @@ keep_spec =
     (tie.spec
     (λ c. search rules)
     (λ c. search rules)
-    (λ c. search (keep-more, rules))
-    (λ c. search (keep-full, rules)))
+    (λ c. search (keep_more, rules))
+    (λ c. search (keep_full, rules)))

@@ -1,6 +1,6 @@
 -- `feeds::one` meets its promise: an LF is answered, and any other byte is kept.
 use borrow.Author.Rules.{rules}
-use Rattle.tray_lines.proofs.Fed.{step_line, step-byte}
+use Rattle.tray_lines.proofs.Fed.{step_line, step_byte}
 use Rattle.tray_lines.proofs.feeds.one.Statement.{statement}
 use Rattle.tray_lines.proofs.feeds.one.Tie as tie
 
@@ -16,4 +16,4 @@ one_spec =
     (λ c. search rules)
     (λ c. search (step_line, rules))
     (λ c κs. search rules)
-    (λ c. search (step-byte, rules)))
+    (λ c. search (step_byte, rules)))

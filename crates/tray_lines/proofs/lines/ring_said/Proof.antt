@@ -7,9 +7,9 @@ use Rattle.tray_lines.proofs.lines.ring_said.Tie as tie
 no_such : tie.Need-returns-14
 no_such c = unknown _ _ _ c.match.rest
 
-pub ring-said-spec : {M : Type 1} → statement M
+pub ring_said_spec : {M : Type 1} → statement M
 unfolding under
-ring-said-spec =
+ring_said_spec =
     tie.close
     (tie.spec
     (λ c. simp c.match.keys1)

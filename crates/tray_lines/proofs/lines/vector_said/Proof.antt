@@ -7,9 +7,9 @@ use Rattle.tray_lines.proofs.lines.vector_said.Tie as tie
 no_such : tie.Need-returns-13
 no_such c = unknown _ _ _ c.match.rest
 
-pub vector-said-spec : {M : Type 1} → statement M
+pub vector_said_spec : {M : Type 1} → statement M
 unfolding under
-vector-said-spec =
+vector_said_spec =
     tie.close
     (tie.spec
     (λ c. simp c.match.keys1)

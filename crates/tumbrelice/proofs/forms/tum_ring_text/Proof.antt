@@ -1,15 +1,15 @@
 -- `tum_ring_text` meets its promise: what is heard of the call is what is seen of it.
 use borrow.Author.Rules.{rules}
-use Rattle.tumbrelice.proofs.Texts.{forms-fit, ring-stored-heard}
+use Rattle.tumbrelice.proofs.Texts.{forms_fit, ring_stored_heard}
 use Rattle.tumbrelice.proofs.forms.tum_ring_text.Statement.{statement}
 use Rattle.tumbrelice.proofs.forms.tum_ring_text.Tie as tie
 
-pub tum-ring-text-spec : {M : Type 1} → statement M
-tum-ring-text-spec =
+pub tum_ring_text_spec : {M : Type 1} → statement M
+tum_ring_text_spec =
     tie.close
     (tie.spec
     (λ c κs. search rules)
     (λ c κs. search rules)
-    (λ c κs. search forms-fit)
+    (λ c κs. search forms_fit)
     (λ c. search rules)
-    (λ c. search ring-stored-heard))
+    (λ c. search ring_stored_heard))

@@ -1,14 +1,14 @@
 -- `tum_ring_new` meets its promise: what is heard of the call is what is seen of it.
 use borrow.Author.Rules.{rules}
-use Rattle.tumbrelice.proofs.Words.{making-fits, ring-made-heard}
+use Rattle.tumbrelice.proofs.Words.{making_fits, ring_made_heard}
 use Rattle.tumbrelice.proofs.makings.tum_ring_new.Statement.{statement}
 use Rattle.tumbrelice.proofs.makings.tum_ring_new.Tie as tie
 
-pub tum-ring-new-spec : {M : Type 1} → statement M
-tum-ring-new-spec =
+pub tum_ring_new_spec : {M : Type 1} → statement M
+tum_ring_new_spec =
     tie.close
     (tie.spec
     (λ c κs. search rules)
     (λ c κs. search rules)
-    (λ c κs. search making-fits)
-    (λ c. search ring-made-heard))
+    (λ c κs. search making_fits)
+    (λ c. search ring_made_heard))

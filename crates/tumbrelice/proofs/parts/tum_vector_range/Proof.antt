@@ -5,8 +5,8 @@ use Rattle.tumbrelice.proofs.Lent.{parting}
 use Rattle.tumbrelice.proofs.parts.tum_vector_range.Statement.{statement}
 use Rattle.tumbrelice.proofs.parts.tum_vector_range.Tie as tie
 
-pub tum-vector-range-spec : {M : Type 1} → statement M
-tum-vector-range-spec =
+pub tum_vector_range_spec : {M : Type 1} → statement M
+tum_vector_range_spec =
     tie.close
     (tie.spec
     (λ c. search rules)

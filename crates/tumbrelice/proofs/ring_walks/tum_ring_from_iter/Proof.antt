@@ -1,11 +1,11 @@
 -- `tum_ring_from_iter` meets its promise: what is heard of the call is what is seen of it.
 use borrow.Author.Rules.{rules}
-use Rattle.tumbrelice.proofs.Twos.{taken-fits, ring-into}
+use Rattle.tumbrelice.proofs.Twos.{taken_fits, ring_into}
 use Rattle.tumbrelice.proofs.ring_walks.tum_ring_from_iter.Statement.{statement}
 use Rattle.tumbrelice.proofs.ring_walks.tum_ring_from_iter.Tie as tie
 
-pub tum-ring-from-iter-spec : {M : Type 1} → statement M
-tum-ring-from-iter-spec =
+pub tum_ring_from_iter_spec : {M : Type 1} → statement M
+tum_ring_from_iter_spec =
     tie.close
     (tie.spec
     (λ c κs. search rules)
@@ -14,6 +14,6 @@ tum-ring-from-iter-spec =
     (λ c κs. search rules)
     (λ c κs. search rules)
     (λ c κs. search rules)
-    (λ c κs. search (taken-fits, rules))
+    (λ c κs. search (taken_fits, rules))
     (λ c. search rules)
-    (λ c. search ring-into))
+    (λ c. search ring_into))

@@ -1,17 +1,17 @@
 -- `tum_ring_step_front` meets its promise: what is heard of the call is what is seen of it.
 use borrow.Author.Rules.{rules}
-use Rattle.table.specs.Calls.{stepFront}
+use Rattle.table.specs.Calls.{step_front}
 use mathlib.Core.Path.{refl}
-use Rattle.tumbrelice.proofs.Steps.{ring-stepped}
+use Rattle.tumbrelice.proofs.Steps.{ring_stepped}
 use Rattle.tumbrelice.proofs.ring_walks.tum_ring_step_front.Statement.{statement}
 use Rattle.tumbrelice.proofs.ring_walks.tum_ring_step_front.Tie as tie
 
-pub tum-ring-step-front-spec : {M : Type 1} → statement M
-tum-ring-step-front-spec =
+pub tum_ring_step_front_spec : {M : Type 1} → statement M
+tum_ring_step_front_spec =
     tie.close
     (tie.spec
     (λ c κs. search rules)
     (λ c κs. search rules)
     (λ c κs. search rules)
     (λ c κs. search rules)
-    (λ c. search (ring-stepped stepFront (λ u t. refl))))
+    (λ c. search (ring_stepped step_front (λ u t. refl))))

@@ -1,16 +1,16 @@
 -- `tum_ring_clear` meets its promise: what is heard of the call is what is seen of it.
 use borrow.Author.Rules.{rules}
-use Rattle.tumbrelice.proofs.Words.{ring-fits, ring-hears}
+use Rattle.tumbrelice.proofs.Words.{ring_fits, ring_hears}
 use Rattle.tumbrelice.proofs.rings.tum_ring_clear.Statement.{statement}
 use Rattle.tumbrelice.proofs.rings.tum_ring_clear.Tie as tie
 
-pub tum-ring-clear-spec : {M : Type 1} → statement M
-tum-ring-clear-spec =
+pub tum_ring_clear_spec : {M : Type 1} → statement M
+tum_ring_clear_spec =
     tie.close
     (tie.spec
     (λ c κs. search rules)
     (λ c κs. search rules)
     (λ c κs. search rules)
-    (λ c κs. search ring-fits)
+    (λ c κs. search ring_fits)
     (λ c. search rules)
-    (λ c. search ring-hears))
+    (λ c. search ring_hears))

@@ -1,17 +1,17 @@
 -- `tum_ring_resize` meets its promise: what is heard of the call is what is seen of it. The head stays, unless nothing is left.
 use borrow.Author.Rules.{rules}
-use Rattle.tumbrelice.proofs.Words.{ring-fits, ring-hears}
-use Rattle.tumbrelice.proofs.Staying.{head-rests}
+use Rattle.tumbrelice.proofs.Words.{ring_fits, ring_hears}
+use Rattle.tumbrelice.proofs.Staying.{head_rests}
 use Rattle.tumbrelice.proofs.rings.tum_ring_resize.Statement.{statement}
 use Rattle.tumbrelice.proofs.rings.tum_ring_resize.Tie as tie
 
-pub tum-ring-resize-spec : {M : Type 1} → statement M
-tum-ring-resize-spec =
+pub tum_ring_resize_spec : {M : Type 1} → statement M
+tum_ring_resize_spec =
     tie.close
     (tie.spec
     (λ c κs. search rules)
     (λ c κs. search rules)
-    (λ c κs. search (head-rests, rules))
-    (λ c κs. search ring-fits)
+    (λ c κs. search (head_rests, rules))
+    (λ c κs. search ring_fits)
     (λ c. search rules)
-    (λ c. search ring-hears))
+    (λ c. search ring_hears))

@@ -1,11 +1,11 @@
 -- `tum_ring_split_off` meets its promise: what is heard of the call is what is seen of it.
 use borrow.Author.Rules.{rules}
-use Rattle.tumbrelice.proofs.Twos.{rings-fit, rings-hear}
+use Rattle.tumbrelice.proofs.Twos.{rings_fit, rings_hear}
 use Rattle.tumbrelice.proofs.two.tum_ring_split_off.Statement.{statement}
 use Rattle.tumbrelice.proofs.two.tum_ring_split_off.Tie as tie
 
-pub tum-ring-split-off-spec : {M : Type 1} → statement M
-tum-ring-split-off-spec =
+pub tum_ring_split_off_spec : {M : Type 1} → statement M
+tum_ring_split_off_spec =
     tie.close
     (tie.spec
     (λ c κs. search rules)
@@ -13,7 +13,7 @@ tum-ring-split-off-spec =
     (λ c κs. search rules)
     (λ c κs. search rules)
     (λ c κs. search rules)
-    (λ c κs. search rings-fit)
+    (λ c κs. search rings_fit)
     (λ c. search rules)
     (λ c. search rules)
-    (λ c. search rings-hear))
+    (λ c. search rings_hear))

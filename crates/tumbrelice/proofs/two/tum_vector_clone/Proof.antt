@@ -1,17 +1,17 @@
 -- `tum_vector_clone` meets its promise: what is heard of the call is what is seen of it.
 use borrow.Author.Rules.{rules}
-use Rattle.tumbrelice.proofs.Twos.{vectors-fit, vectors-cloned}
+use Rattle.tumbrelice.proofs.Twos.{vectors_fit, vectors_cloned}
 use Rattle.tumbrelice.proofs.two.tum_vector_clone.Statement.{statement}
 use Rattle.tumbrelice.proofs.two.tum_vector_clone.Tie as tie
 
-pub tum-vector-clone-spec : {M : Type 1} → statement M
-tum-vector-clone-spec =
+pub tum_vector_clone_spec : {M : Type 1} → statement M
+tum_vector_clone_spec =
     tie.close
     (tie.spec
     (λ c κs. search rules)
     (λ c κs. search rules)
     (λ c κs. search rules)
     (λ c κs. search rules)
-    (λ c κs. search vectors-fit)
+    (λ c κs. search vectors_fit)
     (λ c. search rules)
-    (λ c. search vectors-cloned))
+    (λ c. search vectors_cloned))

@@ -1,17 +1,17 @@
 -- `tum_vector_peek_back` meets its promise: what is heard of the call is what is seen of it. The cursor stays.
 use borrow.Author.Rules.{rules}
-use Rattle.table.specs.Calls.{peekBack}
+use Rattle.table.specs.Calls.{peek_back}
 use mathlib.Core.Path.{refl}
-use Rattle.tumbrelice.proofs.Steps.{vector-peeked}
+use Rattle.tumbrelice.proofs.Steps.{vector_peeked}
 use Rattle.tumbrelice.proofs.vector_walks.tum_vector_peek_back.Statement.{statement}
 use Rattle.tumbrelice.proofs.vector_walks.tum_vector_peek_back.Tie as tie
 
-pub tum-vector-peek-back-spec : {M : Type 1} → statement M
-tum-vector-peek-back-spec =
+pub tum_vector_peek_back_spec : {M : Type 1} → statement M
+tum_vector_peek_back_spec =
     tie.close
     (tie.spec
     (λ c κs. search rules)
     (λ c κs. search rules)
     (λ c κs. search rules)
     (λ c κs. search rules)
-    (λ c. search (vector-peeked peekBack (λ m u t. refl) (λ m u t. refl))))
+    (λ c. search (vector_peeked peek_back (λ m u t. refl) (λ m u t. refl))))

@@ -1,17 +1,17 @@
 -- `tum_vector_step_back` meets its promise: what is heard of the call is what is seen of it.
 use borrow.Author.Rules.{rules}
-use Rattle.table.specs.Calls.{stepBack}
+use Rattle.table.specs.Calls.{step_back}
 use mathlib.Core.Path.{refl}
-use Rattle.tumbrelice.proofs.Steps.{vector-stepped}
+use Rattle.tumbrelice.proofs.Steps.{vector_stepped}
 use Rattle.tumbrelice.proofs.vector_walks.tum_vector_step_back.Statement.{statement}
 use Rattle.tumbrelice.proofs.vector_walks.tum_vector_step_back.Tie as tie
 
-pub tum-vector-step-back-spec : {M : Type 1} → statement M
-tum-vector-step-back-spec =
+pub tum_vector_step_back_spec : {M : Type 1} → statement M
+tum_vector_step_back_spec =
     tie.close
     (tie.spec
     (λ c κs. search rules)
     (λ c κs. search rules)
     (λ c κs. search rules)
     (λ c κs. search rules)
-    (λ c. search (vector-stepped stepBack (λ u t. refl))))
+    (λ c. search (vector_stepped step_back (λ u t. refl))))

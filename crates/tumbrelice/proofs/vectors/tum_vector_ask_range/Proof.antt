@@ -1,14 +1,14 @@
 -- `tum_vector_ask_range` meets its promise: what is heard of the call is what is seen of it.
 use borrow.Author.Rules.{rules}
-use Rattle.tumbrelice.proofs.Words.{vector-fits, vector-looked}
+use Rattle.tumbrelice.proofs.Words.{vector_fits, vector_looked}
 use Rattle.tumbrelice.proofs.vectors.tum_vector_ask_range.Statement.{statement}
 use Rattle.tumbrelice.proofs.vectors.tum_vector_ask_range.Tie as tie
 
-pub tum-vector-ask-range-spec : {M : Type 1} → statement M
-tum-vector-ask-range-spec =
+pub tum_vector_ask_range_spec : {M : Type 1} → statement M
+tum_vector_ask_range_spec =
     tie.close
     (tie.spec
     (λ c κs. search rules)
     (λ c κs. search rules)
-    (λ c κs. search vector-fits)
-    (λ c. search vector-looked))
+    (λ c κs. search vector_fits)
+    (λ c. search vector_looked))

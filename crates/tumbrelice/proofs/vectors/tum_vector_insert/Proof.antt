@@ -1,16 +1,16 @@
 -- `tum_vector_insert` meets its promise: what is heard of the call is what is seen of it.
 use borrow.Author.Rules.{rules}
-use Rattle.tumbrelice.proofs.Words.{vector-fits, vector-hears}
+use Rattle.tumbrelice.proofs.Words.{vector_fits, vector_hears}
 use Rattle.tumbrelice.proofs.vectors.tum_vector_insert.Statement.{statement}
 use Rattle.tumbrelice.proofs.vectors.tum_vector_insert.Tie as tie
 
-pub tum-vector-insert-spec : {M : Type 1} → statement M
-tum-vector-insert-spec =
+pub tum_vector_insert_spec : {M : Type 1} → statement M
+tum_vector_insert_spec =
     tie.close
     (tie.spec
     (λ c κs. search rules)
     (λ c κs. search rules)
     (λ c κs. search rules)
-    (λ c κs. search vector-fits)
+    (λ c κs. search vector_fits)
     (λ c. search rules)
-    (λ c. search vector-hears))
+    (λ c. search vector_hears))

@@ -1,17 +1,17 @@
 -- `tum_vector_write` meets its promise: what is heard of the call is what is seen of it. The length stays.
 use borrow.Author.Rules.{rules}
-use Rattle.tumbrelice.proofs.Words.{vector-fits, vector-hears}
-use Rattle.tumbrelice.proofs.Staying.{vector-written}
+use Rattle.tumbrelice.proofs.Words.{vector_fits, vector_hears}
+use Rattle.tumbrelice.proofs.Staying.{vector_written}
 use Rattle.tumbrelice.proofs.vectors.tum_vector_write.Statement.{statement}
 use Rattle.tumbrelice.proofs.vectors.tum_vector_write.Tie as tie
 
-pub tum-vector-write-spec : {M : Type 1} → statement M
-tum-vector-write-spec =
+pub tum_vector_write_spec : {M : Type 1} → statement M
+tum_vector_write_spec =
     tie.close
     (tie.spec
     (λ c κs. search rules)
     (λ c κs. search rules)
-    (λ c κs. search (vector-written, rules))
-    (λ c κs. search vector-fits)
+    (λ c κs. search (vector_written, rules))
+    (λ c κs. search vector_fits)
     (λ c. search rules)
-    (λ c. search vector-hears))
+    (λ c. search vector_hears))

@@ -1,7 +1,7 @@
 -- `Vector::as_mut_slice` meets its promise: the part of all entries, or the empty one at slot 0.
 use borrow.Author.Rules.{rules}
 use Rattle.table.proofs.Laws.Valid.{state}
-use Rattle.table.proofs.Laws.Lending.{all-within, lending}
+use Rattle.table.proofs.Laws.Lending.{all_within, lending}
 use Rattle.vector.proofs.Vector.as_mut_slice.Statement.{statement}
 use Rattle.vector.proofs.Vector.as_mut_slice.Tie as tie
 
@@ -17,4 +17,4 @@ as_mut_slice_spec =
     (λ c. search rules)
     (λ c. search rules)
     (λ c. omega state)
-    (λ c. search (all-within, lending)))
+    (λ c. search (all_within, lending)))

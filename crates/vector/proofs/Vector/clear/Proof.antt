@@ -2,7 +2,7 @@
 use borrow.Author.Rules.{rules}
 use Rattle.table.specs.Does.{does}
 use Rattle.table.proofs.Laws.Valid.{state}
-use Rattle.table.proofs.Laws.Cut.{clear-done}
+use Rattle.table.proofs.Laws.Cut.{clear_done}
 use Rattle.vector.proofs.Told.{refusals, shown}
 use Rattle.vector.proofs.Vector.clear.Statement.{statement}
 use Rattle.vector.proofs.Vector.clear.Tie as tie
@@ -19,4 +19,4 @@ clear_spec =
     (λ c κs. search rules)
     (λ c κs. search rules)
     (λ c. search rules)
-    (λ c. search (clear-done, shown)))
+    (λ c. search (clear_done, shown)))

@@ -2,14 +2,14 @@
 use borrow.Author.Rules.{rules}
 use Rattle.table.specs.Does.{does}
 use Rattle.table.proofs.Laws.Valid.{state}
-use Rattle.table.proofs.Laws.Cut.{extend-done}
+use Rattle.table.proofs.Laws.Cut.{extend_done}
 use Rattle.vector.proofs.Told.{refusals, shown}
 use Rattle.vector.proofs.Vector.extend_from_slice.Statement.{statement}
 use Rattle.vector.proofs.Vector.extend_from_slice.Tie as tie
 
-pub extend-from-slice-spec : {M : Type 1} → statement M
+pub extend_from_slice_spec : {M : Type 1} → statement M
 unfolding does
-extend-from-slice-spec =
+extend_from_slice_spec =
     tie.close
     (tie.spec
     (λ c κs. search rules)
@@ -23,4 +23,4 @@ extend-from-slice-spec =
     (λ c. search rules)
     (λ c κs. search rules)
     (λ c. search rules)
-    (λ c. search (extend-done, shown)))
+    (λ c. search (extend_done, shown)))

@@ -1,14 +1,14 @@
 -- `Vector::insert` meets its promise: the run from i on shifts by one, and x goes to slot i.
 use borrow.Author.Rules.{rules}
 use Rattle.table.specs.Does.{does}
-use Rattle.table.proofs.Laws.Shifted.{vector-insert-done}
-use Rattle.vector.proofs.Told.{refusals, shown-lit}
+use Rattle.table.proofs.Laws.Shifted.{vector_insert_done}
+use Rattle.vector.proofs.Told.{refusals, shown_lit}
 use Rattle.vector.proofs.Vector.insert.Statement.{statement}
 use Rattle.vector.proofs.Vector.insert.Tie as tie
 
-pub insert-spec : {M : Type 1} → statement M
+pub insert_spec : {M : Type 1} → statement M
 unfolding does
-insert-spec =
+insert_spec =
     tie.close
     (tie.spec
     (λ c κs. search rules)
@@ -25,4 +25,4 @@ insert-spec =
     (λ c κs. search rules)
     (λ c κs. search rules)
     (λ c. search rules)
-    (λ c. search (vector-insert-done, shown-lit)))
+    (λ c. search (vector_insert_done, shown_lit)))

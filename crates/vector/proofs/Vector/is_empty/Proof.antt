@@ -1,7 +1,7 @@
 -- `Vector::is_empty` meets its promise: nothing is stored, and a law for each answer.
 use borrow.Author.Rules.{rules}
 use Rattle.table.specs.Does.{does}
-use Rattle.table.proofs.Laws.Looks.{empty-done, filled-done}
+use Rattle.table.proofs.Laws.Looks.{empty_done, filled_done}
 use Rattle.vector.proofs.Told.{refusals, stays}
 use Rattle.vector.proofs.Vector.is_empty.Statement.{statement}
 use Rattle.vector.proofs.Vector.is_empty.Tie as tie
@@ -15,6 +15,6 @@ is_empty_spec =
     (λ c κs. search rules)
     (λ c. search refusals)
     (λ c κs. search rules)
-    (λ c. search (empty-done, stays))
+    (λ c. search (empty_done, stays))
     (λ c κs. search rules)
-    (λ c. search (filled-done, stays)))
+    (λ c. search (filled_done, stays)))

@@ -1,7 +1,7 @@
 -- `Vector::new` meets its promise: no slot is touched, and the list is empty.
 use borrow.Author.Rules.{rules}
 use Rattle.table.specs.Does.{made}
-use Rattle.table.proofs.Laws.Made.{new-done}
+use Rattle.table.proofs.Laws.Made.{new_done}
 use Rattle.vector.proofs.Told.{refusals, shown}
 use Rattle.vector.proofs.Vector.new.Statement.{statement}
 use Rattle.vector.proofs.Vector.new.Tie as tie
@@ -17,4 +17,4 @@ new_spec =
     (λ c. search refusals)
     (λ c κs. search rules)
     (λ c κs. search rules)
-    (λ c. search (new-done, shown)))
+    (λ c. search (new_done, shown)))

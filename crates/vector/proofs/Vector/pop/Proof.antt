@@ -2,8 +2,8 @@
 use borrow.Author.Rules.{rules}
 use Rattle.table.specs.Does.{does}
 use Rattle.table.proofs.Laws.Valid.{state}
-use Rattle.table.proofs.Laws.Stores.{vector-pop-done}
-use Rattle.vector.proofs.Told.{refusals, shown-lit}
+use Rattle.table.proofs.Laws.Stores.{vector_pop_done}
+use Rattle.vector.proofs.Told.{refusals, shown_lit}
 use Rattle.vector.proofs.Vector.pop.Statement.{statement}
 use Rattle.vector.proofs.Vector.pop.Tie as tie
 
@@ -26,4 +26,4 @@ pop_spec =
     (λ c κs. search rules)
     (λ c κs. search rules)
     (λ c. search rules)
-    (λ c. search (vector-pop-done, shown-lit)))
+    (λ c. search (vector_pop_done, shown_lit)))

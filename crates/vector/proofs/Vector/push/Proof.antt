@@ -2,8 +2,8 @@
 use borrow.Author.Rules.{rules}
 use Rattle.table.specs.Does.{does}
 use Rattle.table.proofs.Laws.Valid.{state}
-use Rattle.table.proofs.Laws.Stores.{vector-push-done}
-use Rattle.vector.proofs.Told.{refusals, shown-lit}
+use Rattle.table.proofs.Laws.Stores.{vector_push_done}
+use Rattle.vector.proofs.Told.{refusals, shown_lit}
 use Rattle.vector.proofs.Vector.push.Statement.{statement}
 use Rattle.vector.proofs.Vector.push.Tie as tie
 
@@ -24,4 +24,4 @@ push_spec =
     (λ c κs. search rules)
     (λ c κs. search rules)
     (λ c. search rules)
-    (λ c. search (vector-push-done, shown-lit)))
+    (λ c. search (vector_push_done, shown_lit)))

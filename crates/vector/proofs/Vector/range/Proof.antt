@@ -5,8 +5,8 @@ use Rattle.table.proofs.Laws.Lending.{lending}
 use Rattle.vector.proofs.Vector.range.Statement.{statement}
 use Rattle.vector.proofs.Vector.range.Tie as tie
 
-pub range-spec : {M : Type 1} → statement M
-range-spec =
+pub range_spec : {M : Type 1} → statement M
+range_spec =
     tie.close
     (tie.spec
     (λ c κs. search rules)

@@ -2,8 +2,8 @@
 use borrow.Author.Rules.{rules}
 use Rattle.table.specs.Does.{does}
 use Rattle.table.proofs.Laws.Valid.{state}
-use Rattle.table.proofs.Laws.Looks.{vector-read-done}
-use Rattle.vector.proofs.Told.{refusals, stays-lit}
+use Rattle.table.proofs.Laws.Looks.{vector_read_done}
+use Rattle.vector.proofs.Told.{refusals, stays_lit}
 use Rattle.vector.proofs.Vector.read.Statement.{statement}
 use Rattle.vector.proofs.Vector.read.Tie as tie
 
@@ -22,4 +22,4 @@ read_spec =
     (λ c. omega state)
     (λ c κs. search rules)
     (λ c κs. search rules)
-    (λ c. search (vector-read-done, stays-lit)))
+    (λ c. search (vector_read_done, stays_lit)))

@@ -2,14 +2,14 @@
 use borrow.Author.Rules.{rules}
 use Rattle.table.specs.Does.{does}
 use Rattle.table.proofs.Laws.Valid.{state}
-use Rattle.table.proofs.Laws.Shifted.{vector-remove-done}
-use Rattle.vector.proofs.Told.{refusals, shown-lit}
+use Rattle.table.proofs.Laws.Shifted.{vector_remove_done}
+use Rattle.vector.proofs.Told.{refusals, shown_lit}
 use Rattle.vector.proofs.Vector.remove.Statement.{statement}
 use Rattle.vector.proofs.Vector.remove.Tie as tie
 
-pub remove-spec : {M : Type 1} → statement M
+pub remove_spec : {M : Type 1} → statement M
 unfolding does
-remove-spec =
+remove_spec =
     tie.close
     (tie.spec
     (λ c κs. search rules)
@@ -28,4 +28,4 @@ remove-spec =
     (λ c κs. search rules)
     (λ c κs. search rules)
     (λ c. search rules)
-    (λ c. search (vector-remove-done, shown-lit)))
+    (λ c. search (vector_remove_done, shown_lit)))

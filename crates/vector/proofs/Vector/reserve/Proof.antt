@@ -2,7 +2,7 @@
 use borrow.Author.Rules.{rules}
 use Rattle.table.specs.Does.{does}
 use Rattle.table.proofs.Laws.Valid.{state}
-use Rattle.table.proofs.Laws.Looks.{reserve-done}
+use Rattle.table.proofs.Laws.Looks.{reserve_done}
 use Rattle.vector.proofs.Told.{refusals, stays}
 use Rattle.vector.proofs.Vector.reserve.Statement.{statement}
 use Rattle.vector.proofs.Vector.reserve.Tie as tie
@@ -19,4 +19,4 @@ reserve_spec =
     (λ c κs. search rules)
     (λ c. search refusals)
     (λ c κs. search rules)
-    (λ c. search (reserve-done, stays)))
+    (λ c. search (reserve_done, stays)))

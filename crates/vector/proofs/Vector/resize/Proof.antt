@@ -2,8 +2,8 @@
 use borrow.Author.Rules.{rules}
 use Rattle.table.specs.Does.{does}
 use Rattle.table.proofs.Laws.Valid.{state}
-use Rattle.table.proofs.Laws.Cut.{resize-cut-done}
-use Rattle.table.proofs.Laws.VectorDone.{vector-resize-more-done}
+use Rattle.table.proofs.Laws.Cut.{resize_cut_done}
+use Rattle.table.proofs.Laws.VectorDone.{vector_resize_more_done}
 use Rattle.vector.proofs.Told.{refusals, shown}
 use Rattle.vector.proofs.Vector.resize.Statement.{statement}
 use Rattle.vector.proofs.Vector.resize.Tie as tie
@@ -22,10 +22,10 @@ resize_spec =
     (λ c κs. search rules)
     (λ c κs. search rules)
     (λ c. search rules)
-    (λ c. search (resize-cut-done, shown))
+    (λ c. search (resize_cut_done, shown))
     (λ c κs. omega state)
     (λ c κs. search rules)
     (λ c κs. search rules)
     (λ c κs. search rules)
     (λ c. search rules)
-    (λ c. search (vector-resize-more-done, shown)))
+    (λ c. search (vector_resize_more_done, shown)))

@@ -3,15 +3,15 @@ use borrow.Author.Rules.{rules}
 use lib.ListN.{length-set}
 use Rattle.table.specs.Does.{does}
 use Rattle.table.proofs.Laws.Valid.{state}
-use Rattle.table.proofs.Laws.VectorDone.{vector-swap-last-done}
-use Rattle.table.proofs.Laws.Shifted.{swap-done}
-use Rattle.vector.proofs.Told.{refusals, shown-lit}
+use Rattle.table.proofs.Laws.VectorDone.{vector_swap_last_done}
+use Rattle.table.proofs.Laws.Shifted.{swap_done}
+use Rattle.vector.proofs.Told.{refusals, shown_lit}
 use Rattle.vector.proofs.Vector.swap_remove.Statement.{statement}
 use Rattle.vector.proofs.Vector.swap_remove.Tie as tie
 
-pub swap-remove-spec : {M : Type 1} → statement M
+pub swap_remove_spec : {M : Type 1} → statement M
 unfolding does
-swap-remove-spec =
+swap_remove_spec =
     tie.close
     (tie.spec
     (λ c κs. search rules)
@@ -28,7 +28,7 @@ swap-remove-spec =
     (λ c κs. search rules)
     (λ c κs. search rules)
     (λ c. search rules)
-    (λ c. search (vector-swap-last-done, shown-lit))
+    (λ c. search (vector_swap_last_done, shown_lit))
     (λ c. omega state)
     (λ c. omega state)
     (λ c. omega state)
@@ -38,4 +38,4 @@ swap-remove-spec =
     (λ c κs. search rules)
     (λ c κs. search rules)
     (λ c. search rules)
-    (λ c. search (swap-done, shown-lit)))
+    (λ c. search (swap_done, shown_lit)))

@@ -2,23 +2,23 @@
 use borrow.Author.Rules.{rules}
 use Rattle.table.specs.Does.{does}
 use Rattle.table.proofs.Laws.Valid.{state}
-use Rattle.table.proofs.Laws.Cut.{truncate-same-done, truncate-done}
+use Rattle.table.proofs.Laws.Cut.{truncate_same_done, truncate_done}
 use Rattle.vector.proofs.Told.{refusals, stays, shown}
 use Rattle.vector.proofs.Vector.truncate.Statement.{statement}
 use Rattle.vector.proofs.Vector.truncate.Tie as tie
 
-pub truncate-spec : {M : Type 1} → statement M
+pub truncate_spec : {M : Type 1} → statement M
 unfolding does
-truncate-spec =
+truncate_spec =
     tie.close
     (tie.spec
     (λ c κs. search rules)
     (λ c κs. search rules)
     (λ c. search refusals)
     (λ c κs. search rules)
-    (λ c. search (truncate-same-done, stays))
+    (λ c. search (truncate_same_done, stays))
     (λ c κs. omega state)
     (λ c κs. search rules)
     (λ c κs. search rules)
     (λ c. search rules)
-    (λ c. search (truncate-done, shown)))
+    (λ c. search (truncate_done, shown)))

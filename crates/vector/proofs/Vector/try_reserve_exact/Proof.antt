@@ -2,13 +2,13 @@
 use borrow.Author.Rules.{rules}
 use Rattle.table.specs.Does.{does}
 use Rattle.table.specs.Reported.{reported}
-use Rattle.table.specs.Totals.{totalAfter}
+use Rattle.table.specs.Totals.{total_after}
 use Rattle.vector.proofs.Vector.try_reserve_exact.Statement.{statement}
 use Rattle.vector.proofs.Vector.try_reserve_exact.Tie as tie
 
-pub try-reserve-exact-spec : {M : Type 1} → statement M
-unfolding does reported totalAfter
-try-reserve-exact-spec =
+pub try_reserve_exact_spec : {M : Type 1} → statement M
+unfolding does reported total_after
+try_reserve_exact_spec =
     tie.close
     (tie.spec
     (λ c κs. search rules)

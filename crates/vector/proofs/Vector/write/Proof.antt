@@ -2,8 +2,8 @@
 use borrow.Author.Rules.{rules}
 use Rattle.table.specs.Does.{does}
 use Rattle.table.proofs.Laws.Valid.{state}
-use Rattle.table.proofs.Laws.VectorDone.{vector-write-done}
-use Rattle.vector.proofs.Told.{refusals, shown-lit}
+use Rattle.table.proofs.Laws.VectorDone.{vector_write_done}
+use Rattle.vector.proofs.Told.{refusals, shown_lit}
 use Rattle.vector.proofs.Vector.write.Statement.{statement}
 use Rattle.vector.proofs.Vector.write.Tie as tie
 
@@ -26,4 +26,4 @@ write_spec =
     (λ c κs. search rules)
     (λ c κs. search rules)
     (λ c. search rules)
-    (λ c. search (vector-write-done, shown-lit)))
+    (λ c. search (vector_write_done, shown_lit)))

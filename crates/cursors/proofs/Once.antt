@@ -18,6 +18,7 @@ use Rattle.cursors.specs.declared.Step.{Step}
 use Rattle.cursors.specs.declared.Step.TheVariants.{Entry, Invalid, Astray, Ended}
 use Rattle.cursors.specs.Seen.{seen, Starts, Takes}
 use Rattle.cursors.proofs.Cursor as fn
+use Rattle.cursors.specs.contracts.Cursor as promise
 
 again : Cursor → code.Cursor
 again u = record { front = u.front; back = u.back }
@@ -57,45 +58,45 @@ one_into r r' s2 s2' p q =
 
 -- In what follows a are the arguments, r and r' are results, and e and e' the arguments as they are at the return.
 module _ (κs : Lfts 1) where
-  pub ring_iter_once : Twice fn.ring_iter.ended κs (fn.ring_iter.Reads.Learnt κs) (λ r e r' e'. r ≡ r')
+  pub ring_iter_once : Twice promise.ring_iter.ended κs (fn.ring_iter.Reads.Learnt κs) (λ r e r' e'. r ≡ r')
   ring_iter_once a r r' e e' p q = one_begun r r' p q
 
-  pub ring_into_iter_once : Twice fn.ring_into_iter.ended κs (fn.ring_into_iter.Reads.Learnt κs) (λ r e r' e'. r ≡ r')
+  pub ring_into_iter_once : Twice promise.ring_into_iter.ended κs (fn.ring_into_iter.Reads.Learnt κs) (λ r e r' e'. r ≡ r')
   ring_into_iter_once a r r' e e' p q = one_begun r r' p q
 
-  pub ring_step_front_once : Twice fn.ring_step_front.ended κs (fn.ring_step_front.Reads.Learnt κs) (λ r e r' e'. r ≡ r')
+  pub ring_step_front_once : Twice promise.ring_step_front.ended κs (fn.ring_step_front.Reads.Learnt κs) (λ r e r' e'. r ≡ r')
   ring_step_front_once a r r' e e' p q = one _ r r' _ _ p q
 
-  pub ring_step_back_once : Twice fn.ring_step_back.ended κs (fn.ring_step_back.Reads.Learnt κs) (λ r e r' e'. r ≡ r')
+  pub ring_step_back_once : Twice promise.ring_step_back.ended κs (fn.ring_step_back.Reads.Learnt κs) (λ r e r' e'. r ≡ r')
   ring_step_back_once a r r' e e' p q = one _ r r' _ _ p q
 
-  pub ring_peek_front_once : Twice fn.ring_peek_front.ended κs (fn.ring_peek_front.Reads.Learnt κs) (λ r e r' e'. r ≡ r')
+  pub ring_peek_front_once : Twice promise.ring_peek_front.ended κs (fn.ring_peek_front.Reads.Learnt κs) (λ r e r' e'. r ≡ r')
   ring_peek_front_once a r r' e e' p q = one _ r r' _ _ p q
 
-  pub ring_peek_back_once : Twice fn.ring_peek_back.ended κs (fn.ring_peek_back.Reads.Learnt κs) (λ r e r' e'. r ≡ r')
+  pub ring_peek_back_once : Twice promise.ring_peek_back.ended κs (fn.ring_peek_back.Reads.Learnt κs) (λ r e r' e'. r ≡ r')
   ring_peek_back_once a r r' e e' p q = one _ r r' _ _ p q
 
-  pub vector_iter_once : Twice fn.vector_iter.ended κs (fn.vector_iter.Reads.Learnt κs) (λ r e r' e'. r ≡ r')
+  pub vector_iter_once : Twice promise.vector_iter.ended κs (fn.vector_iter.Reads.Learnt κs) (λ r e r' e'. r ≡ r')
   vector_iter_once a r r' e e' p q = one_begun r r' p q
 
-  pub vector_into_iter_once : Twice fn.vector_into_iter.ended κs (fn.vector_into_iter.Reads.Learnt κs) (λ r e r' e'. r ≡ r')
+  pub vector_into_iter_once : Twice promise.vector_into_iter.ended κs (fn.vector_into_iter.Reads.Learnt κs) (λ r e r' e'. r ≡ r')
   vector_into_iter_once a r r' e e' p q = one_begun r r' p q
 
-  pub vector_step_front_once : Twice fn.vector_step_front.ended κs (fn.vector_step_front.Reads.Learnt κs) (λ r e r' e'. r ≡ r')
+  pub vector_step_front_once : Twice promise.vector_step_front.ended κs (fn.vector_step_front.Reads.Learnt κs) (λ r e r' e'. r ≡ r')
   vector_step_front_once a r r' e e' p q = one _ r r' _ _ p q
 
-  pub vector_step_back_once : Twice fn.vector_step_back.ended κs (fn.vector_step_back.Reads.Learnt κs) (λ r e r' e'. r ≡ r')
+  pub vector_step_back_once : Twice promise.vector_step_back.ended κs (fn.vector_step_back.Reads.Learnt κs) (λ r e r' e'. r ≡ r')
   vector_step_back_once a r r' e e' p q = one _ r r' _ _ p q
 
-  pub vector_peek_front_once : Twice fn.vector_peek_front.ended κs (fn.vector_peek_front.Reads.Learnt κs) (λ r e r' e'. r ≡ r')
+  pub vector_peek_front_once : Twice promise.vector_peek_front.ended κs (fn.vector_peek_front.Reads.Learnt κs) (λ r e r' e'. r ≡ r')
   vector_peek_front_once a r r' e e' p q = one _ r r' _ _ p q
 
-  pub vector_peek_back_once : Twice fn.vector_peek_back.ended κs (fn.vector_peek_back.Reads.Learnt κs) (λ r e r' e'. r ≡ r')
+  pub vector_peek_back_once : Twice promise.vector_peek_back.ended κs (fn.vector_peek_back.Reads.Learnt κs) (λ r e r' e'. r ≡ r')
   vector_peek_back_once a r r' e e' p q = one _ r r' _ _ p q
 
 module _ (κs : Lfts 2) where
-  pub ring_from_iter_once : Twice fn.ring_from_iter.ended κs (fn.ring_from_iter.Reads.Learnt κs) (λ r e r' e'. (r ≡ r') × (e.1.1.1.1.0.now ≡ e'.1.1.1.1.0.now))
+  pub ring_from_iter_once : Twice promise.ring_from_iter.ended κs (fn.ring_from_iter.Reads.Learnt κs) (λ r e r' e'. (r ≡ r') × (e.1.1.1.1.0.now ≡ e'.1.1.1.1.0.now))
   ring_from_iter_once a r r' e e' p q = one_into r r' _ _ p q
 
-  pub vector_from_iter_once : Twice fn.vector_from_iter.ended κs (fn.vector_from_iter.Reads.Learnt κs) (λ r e r' e'. (r ≡ r') × (e.1.1.1.1.0.now ≡ e'.1.1.1.1.0.now))
+  pub vector_from_iter_once : Twice promise.vector_from_iter.ended κs (fn.vector_from_iter.Reads.Learnt κs) (λ r e r' e'. (r ≡ r') × (e.1.1.1.1.0.now ≡ e'.1.1.1.1.0.now))
   vector_from_iter_once a r r' e e' p q = one_into r r' _ _ p q

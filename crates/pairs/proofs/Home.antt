@@ -13,6 +13,7 @@ use Rattle.ring.specs.Seen.{tray}
 use Rattle.pairs.specs.declared.rings.Both.{Both}
 use Rattle.pairs.specs.Rings.{Meets}
 use Rattle.pairs.proofs.rings as fn
+use Rattle.pairs.specs.contracts.rings as promise
 
 -- both states of an answer: where nothing is in it, the head is 0
 pub record BothHome (r : Both) : Type 0 where
@@ -27,11 +28,11 @@ calls_home call v w s z s' z' r meets zero =
 
 -- In what follows v and s are the ring named first and its slots, w and z are T and its slots, r is the result, and e the arguments as they are at the return.
 module _ (κs : Lfts 2) (v w : Ring) (s z : Bor (List ℕ)) (r : Both) where
-  pub append_home : (e : AtExit fn.append.ended κs) → fn.append.Reads.Learnt κs (v, (s, (w, (z, tt)))) r e → r.number ≡ 0 → BothHome r
+  pub append_home : (e : AtExit promise.append.ended κs) → fn.append.Reads.Learnt κs (v, (s, (w, (z, tt)))) r e → r.number ≡ 0 → BothHome r
   append_home e learnt = calls_home _ _ _ _ _ _ _ _ learnt
 
-  pub split_off_home : (at : ℕ) (e : AtExit fn.split_off.ended κs) → fn.split_off.Reads.Learnt κs (v, (s, (at, (w, (z, tt))))) r e → r.number ≡ 0 → BothHome r
+  pub split_off_home : (at : ℕ) (e : AtExit promise.split_off.ended κs) → fn.split_off.Reads.Learnt κs (v, (s, (at, (w, (z, tt))))) r e → r.number ≡ 0 → BothHome r
   split_off_home at e learnt = calls_home _ _ _ _ _ _ _ _ learnt
 
-  pub clone_home : (e : AtExit fn.clone.ended κs) → fn.clone.Reads.Learnt κs (v, (s, (w, (z, tt)))) r e → r.number ≡ 0 → BothHome r
+  pub clone_home : (e : AtExit promise.clone.ended κs) → fn.clone.Reads.Learnt κs (v, (s, (w, (z, tt)))) r e → r.number ≡ 0 → BothHome r
   clone_home e learnt = calls_home _ _ _ _ _ _ _ _ learnt

@@ -15,6 +15,7 @@ use Rattle.vector.specs.Seen.{tray, state}
 use Rattle.pairs.specs.declared.vectors.Both.{Both}
 use Rattle.pairs.specs.Vectors.{seen2, Meets}
 use Rattle.pairs.proofs.vectors as fn
+use Rattle.pairs.specs.contracts.vectors as promise
 
 -- every promise of `pairs::vectors` is `Meets`, and an answer is told by what is seen of it
 one : {call : Call2} {v w : Vector} {b b2 : List ℕ} (r r' : Both) (s s2 s' s2' : List ℕ) → Meets call v b w b2 r s s2 → Meets call v b w b2 r' s' s2'
@@ -26,14 +27,14 @@ one {call} {v} {w} {b} {b2} r r' s s2 s' s2' p q =
 
 -- In what follows a are the arguments, r and r' are results, and e and e' the arguments as they are at the return.
 module _ (κs : Lfts 2) where
-  pub append_once : Twice fn.append.ended κs (fn.append.Reads.Learnt κs) (λ r e r' e'. (r ≡ r') × (e.1.0.now ≡ e'.1.0.now) × (e.1.1.1.0.now ≡ e'.1.1.1.0.now))
+  pub append_once : Twice promise.append.ended κs (fn.append.Reads.Learnt κs) (λ r e r' e'. (r ≡ r') × (e.1.0.now ≡ e'.1.0.now) × (e.1.1.1.0.now ≡ e'.1.1.1.0.now))
   append_once a r r' e e' p q = one r r' _ _ _ _ p q
 
-  pub split_off_once : Twice fn.split_off.ended κs (fn.split_off.Reads.Learnt κs) (λ r e r' e'. (r ≡ r') × (e.1.0.now ≡ e'.1.0.now) × (e.1.1.1.1.0.now ≡ e'.1.1.1.1.0.now))
+  pub split_off_once : Twice promise.split_off.ended κs (fn.split_off.Reads.Learnt κs) (λ r e r' e'. (r ≡ r') × (e.1.0.now ≡ e'.1.0.now) × (e.1.1.1.1.0.now ≡ e'.1.1.1.1.0.now))
   split_off_once a r r' e e' p q = one r r' _ _ _ _ p q
 
-  pub clone_once : Twice fn.clone.ended κs (fn.clone.Reads.Learnt κs) (λ r e r' e'. (r ≡ r') × (e.1.1.1.0.now ≡ e'.1.1.1.0.now))
+  pub clone_once : Twice promise.clone.ended κs (fn.clone.Reads.Learnt κs) (λ r e r' e'. (r ≡ r') × (e.1.1.1.0.now ≡ e'.1.1.1.0.now))
   clone_once a r r' e e' p q = let is = one r r' _ _ _ _ p q in (is.0, is.2)
 
-  pub equal_once : Twice fn.equal.ended κs (fn.equal.Reads.Learnt κs) (λ r e r' e'. r ≡ r')
+  pub equal_once : Twice promise.equal.ended κs (fn.equal.Reads.Learnt κs) (λ r e r' e'. r ≡ r')
   equal_once a r r' e e' p q = (one r r' _ _ _ _ p q).0

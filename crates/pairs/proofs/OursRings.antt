@@ -11,25 +11,26 @@ use Rattle.table.proofs.Laws.Named.{Are, ours_on_two}
 use Rattle.ring.specs.Seen.{tray}
 use Rattle.pairs.specs.Rings.{seen2}
 use Rattle.pairs.proofs.rings as fn
+use Rattle.pairs.specs.contracts.rings as promise
 
 -- In what follows a are the arguments, r is the result, and e the arguments as they are at the return.
 module _ (w : World) (i j : ℕ) (κs : Lfts 2) where
-  pub append_ours : (a : ArgsD fn.append.signature κs) (r : ResD fn.append.signature κs) (e : AtExit fn.append.ended κs)
+  pub append_ours : (a : ArgsD promise.append.signature κs) (r : ResD promise.append.signature κs) (e : AtExit promise.append.ended κs)
       → Are w i j ring ring (tray a.0 a.1.0.now) (tray a.1.1.0 a.1.1.1.0.now) → fn.append.Reads.Learnt κs a r e
       → Ours w (on_two i j append (seen2 r e.1.0.now e.1.1.1.0.now))
   append_ours a r e are learnt = ours_on_two w i j _ _ _ _ _ _ refl are learnt.row
 
-  pub split_off_ours : (a : ArgsD fn.split_off.signature κs) (r : ResD fn.split_off.signature κs) (e : AtExit fn.split_off.ended κs)
+  pub split_off_ours : (a : ArgsD promise.split_off.signature κs) (r : ResD promise.split_off.signature κs) (e : AtExit promise.split_off.ended κs)
       → Are w i j ring ring (tray a.0 a.1.0.now) (tray a.1.1.1.0 a.1.1.1.1.0.now) → fn.split_off.Reads.Learnt κs a r e
       → Ours w (on_two i j (split_off a.1.1.0) (seen2 r e.1.0.now e.1.1.1.1.0.now))
   split_off_ours a r e are learnt = ours_on_two w i j _ _ _ _ _ _ refl are learnt.row
 
-  pub clone_ours : (a : ArgsD fn.clone.signature κs) (r : ResD fn.clone.signature κs) (e : AtExit fn.clone.ended κs)
+  pub clone_ours : (a : ArgsD promise.clone.signature κs) (r : ResD promise.clone.signature κs) (e : AtExit promise.clone.ended κs)
       → Are w i j ring ring (tray a.0 a.1.0.now) (tray a.1.1.0 a.1.1.1.0.now) → fn.clone.Reads.Learnt κs a r e
       → Ours w (on_two i j clone (seen2 r a.1.0.now e.1.1.1.0.now))
   clone_ours a r e are learnt = ours_on_two w i j _ _ _ _ _ _ refl are learnt.row
 
-  pub same_ours : (a : ArgsD fn.same.signature κs) (r : ResD fn.same.signature κs) (e : AtExit fn.same.ended κs)
+  pub same_ours : (a : ArgsD promise.same.signature κs) (r : ResD promise.same.signature κs) (e : AtExit promise.same.ended κs)
       → Are w i j ring ring (tray a.0 a.1.0.now) (tray a.1.1.0 a.1.1.1.0.now) → fn.same.Reads.Learnt κs a r e
       → Ours w (on_two i j same (seen2 r a.1.0.now a.1.1.1.0.now))
   same_ours a r e are learnt = ours_on_two w i j _ _ _ _ _ _ refl are learnt.row

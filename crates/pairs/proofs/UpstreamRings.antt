@@ -15,10 +15,11 @@ use Rattle.ring.specs.declared.Ring.{Ring}
 use Rattle.ring.proofs.Upstream.{view, Valid}
 use Rattle.pairs.specs.declared.rings.Both.{Both}
 use Rattle.pairs.proofs.rings as fn
+use Rattle.pairs.specs.contracts.rings as promise
 
 -- In what follows v and s are the ring named first and its slots, w and z are T and its slots, r is the result, and e the arguments as they are at the
 -- return: `e.1.0` are the first's slots then, and the other of e are T's.
-module _ (κs : Lfts 2) (v w : Ring) (s z : Bor (List ℕ)) (r : Both) (e : AtExit fn.append.ended κs) (learnt : fn.append.Reads.Learnt κs (v, (s, (w, (z, tt)))) r e) where
+module _ (κs : Lfts 2) (v w : Ring) (s z : Bor (List ℕ)) (r : Both) (e : AtExit promise.append.ended κs) (learnt : fn.append.Reads.Learnt κs (v, (s, (w, (z, tt)))) r e) where
   pub append_list : r.number ≡ 0 → view r.first e.1.0 ≡ view v s ++ view w z
   append_list = law.append_list ring ring _ _ _ learnt.row
 
@@ -28,7 +29,7 @@ module _ (κs : Lfts 2) (v w : Ring) (s z : Bor (List ℕ)) (r : Both) (e : AtEx
   pub append_answers : Valid v s → Valid w z → IfRoom r.number (length s.now) (length (view v s)) (length (view w z))
   append_answers ok ok2 = law.append_answers ring ring _ _ _ ok ok2 learnt.row
 
-module _ (κs : Lfts 2) (v w : Ring) (s z : Bor (List ℕ)) (at : ℕ) (r : Both) (e : AtExit fn.split_off.ended κs) (learnt : fn.split_off.Reads.Learnt κs (v, (s, (at, (w, (z, tt))))) r e) where
+module _ (κs : Lfts 2) (v w : Ring) (s z : Bor (List ℕ)) (at : ℕ) (r : Both) (e : AtExit promise.split_off.ended κs) (learnt : fn.split_off.Reads.Learnt κs (v, (s, (at, (w, (z, tt))))) r e) where
   pub split_off_list : r.number ≡ 0 → view r.first e.1.0 ≡ take at (view v s)
   split_off_list = law.split_off_list ring ring _ _ _ _ learnt.row
 
@@ -38,7 +39,7 @@ module _ (κs : Lfts 2) (v w : Ring) (s z : Bor (List ℕ)) (at : ℕ) (r : Both
   pub split_off_answers : Valid v s → Valid w z → IfSplits r.number (length (view v s)) at (length z.now) (length (view w z))
   split_off_answers ok ok2 = law.split_off_answers ring ring _ _ _ ok ok2 _ learnt.row
 
-module _ (κs : Lfts 2) (v w : Ring) (s z : Bor (List ℕ)) (r : Both) (e : AtExit fn.clone.ended κs) (learnt : fn.clone.Reads.Learnt κs (v, (s, (w, (z, tt)))) r e) where
+module _ (κs : Lfts 2) (v w : Ring) (s z : Bor (List ℕ)) (r : Both) (e : AtExit promise.clone.ended κs) (learnt : fn.clone.Reads.Learnt κs (v, (s, (w, (z, tt)))) r e) where
   pub clone_list : r.number ≡ 0 → view r.second e.1.1.1.0 ≡ view v s
   clone_list = law.clone_list ring ring _ _ _ learnt.row
 

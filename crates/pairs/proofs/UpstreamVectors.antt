@@ -16,10 +16,11 @@ use Rattle.vector.specs.declared.Vector.{Vector}
 use Rattle.vector.proofs.Upstream.{view, Valid}
 use Rattle.pairs.specs.declared.vectors.Both.{Both}
 use Rattle.pairs.proofs.vectors as fn
+use Rattle.pairs.specs.contracts.vectors as promise
 
 -- In what follows v and s are the vector named first and its slots, w and z are T and its slots, r is the result, and e the arguments as they are at the
 -- return: `e.1.0` are the first's slots then, and the other of e are T's.
-module _ (κs : Lfts 2) (v w : Vector) (s z : Bor (List ℕ)) (r : Both) (e : AtExit fn.append.ended κs) (learnt : fn.append.Reads.Learnt κs (v, (s, (w, (z, tt)))) r e) where
+module _ (κs : Lfts 2) (v w : Vector) (s z : Bor (List ℕ)) (r : Both) (e : AtExit promise.append.ended κs) (learnt : fn.append.Reads.Learnt κs (v, (s, (w, (z, tt)))) r e) where
   pub append_list : r.number ≡ 0 → view r.first e.1.0 ≡ view v s ++ view w z
   append_list = law.append_list vector vector _ _ _ learnt.row
 
@@ -29,7 +30,7 @@ module _ (κs : Lfts 2) (v w : Vector) (s z : Bor (List ℕ)) (r : Both) (e : At
   pub append_answers : Valid v s → Valid w z → IfRoom r.number (length s.now) (length (view v s)) (length (view w z))
   append_answers ok ok2 = law.append_answers vector vector _ _ _ ok ok2 learnt.row
 
-module _ (κs : Lfts 2) (v w : Vector) (s z : Bor (List ℕ)) (at : ℕ) (r : Both) (e : AtExit fn.split_off.ended κs) (learnt : fn.split_off.Reads.Learnt κs (v, (s, (at, (w, (z, tt))))) r e) where
+module _ (κs : Lfts 2) (v w : Vector) (s z : Bor (List ℕ)) (at : ℕ) (r : Both) (e : AtExit promise.split_off.ended κs) (learnt : fn.split_off.Reads.Learnt κs (v, (s, (at, (w, (z, tt))))) r e) where
   pub split_off_list : r.number ≡ 0 → view r.first e.1.0 ≡ take at (view v s)
   split_off_list = law.split_off_list vector vector _ _ _ _ learnt.row
 
@@ -39,7 +40,7 @@ module _ (κs : Lfts 2) (v w : Vector) (s z : Bor (List ℕ)) (at : ℕ) (r : Bo
   pub split_off_answers : Valid v s → Valid w z → IfSplits r.number (length (view v s)) at (length z.now) (length (view w z))
   split_off_answers ok ok2 = law.split_off_answers vector vector _ _ _ ok ok2 _ learnt.row
 
-module _ (κs : Lfts 2) (v w : Vector) (s z : Bor (List ℕ)) (r : Both) (e : AtExit fn.clone.ended κs) (learnt : fn.clone.Reads.Learnt κs (v, (s, (w, (z, tt)))) r e) where
+module _ (κs : Lfts 2) (v w : Vector) (s z : Bor (List ℕ)) (r : Both) (e : AtExit promise.clone.ended κs) (learnt : fn.clone.Reads.Learnt κs (v, (s, (w, (z, tt)))) r e) where
   pub clone_list : r.number ≡ 0 → view r.second e.1.1.1.0 ≡ view v s
   clone_list = law.clone_list vector vector _ _ _ learnt.row
 
@@ -52,7 +53,7 @@ module _ (κs : Lfts 2) (v w : Vector) (s z : Bor (List ℕ)) (r : Both) (e : At
   pub clone_answers : Valid v s → Valid w z → IfTakes r.number (length z.now) (length (view w z)) (length (view v s))
   clone_answers ok ok2 = law.clone_answers vector vector _ _ _ ok ok2 learnt.row
 
-module _ (κs : Lfts 2) (v w : Vector) (s z : Bor (List ℕ)) (r : Both) (e : AtExit fn.equal.ended κs) (learnt : fn.equal.Reads.Learnt κs (v, (s, (w, (z, tt)))) r e) where
+module _ (κs : Lfts 2) (v w : Vector) (s z : Bor (List ℕ)) (r : Both) (e : AtExit promise.equal.ended κs) (learnt : fn.equal.Reads.Learnt κs (v, (s, (w, (z, tt)))) r e) where
   pub equal_value : Valid v s → Valid w z → Says r.value 1 (EqSpec (view v s) (view w z)) ⊎ Says r.value 0 (EqSpec (view v s) (view w z) → ⊥)
   equal_value ok ok2 = law.equal_value vector vector _ _ _ ok ok2 learnt.row
 

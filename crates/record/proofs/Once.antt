@@ -15,6 +15,7 @@ use Rattle.record.proofs.read.Reads as read·reads
 use Rattle.record.specs.contracts.texts.judge as judge·fn
 use Rattle.record.proofs.texts.judge.Reads as judge·reads
 use Rattle.record.proofs.texts as texts
+use Rattle.record.specs.contracts.texts as texts·promise
 
 -- In what follows a are the arguments, r and r' are results, and e and e' the arguments as they are at the return.
 module _ (κs : Lfts 3) where
@@ -31,7 +32,7 @@ module _ (κs : Lfts 1) where
   judge_once a r r' e e' p q = p ∙ sym q
 
 module _ (κs : Lfts 2) where
-  pub field_text_once : Twice texts.field_text.ended κs (texts.field_text.Reads.Learnt κs) (λ r e r' e'. (r ≡ r') × (e.1.1.1.0.now ≡ e'.1.1.1.0.now))
+  pub field_text_once : Twice texts·promise.field_text.ended κs (texts.field_text.Reads.Learnt κs) (λ r e r' e'. (r ≡ r') × (e.1.1.1.0.now ≡ e'.1.1.1.0.now))
   field_text_once a r r' e e' p q =
       let same = p.row ∙ sym q.row in
       (ap (λ (u : Unquoted). u.answer) same, ap (λ (u : Unquoted). u.out) same)

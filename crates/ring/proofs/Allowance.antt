@@ -20,6 +20,7 @@ use Rattle.ring.specs.declared.Answer.{Answer}
 use Rattle.ring.specs.Seen.{tray, seen, Meets, MeetsWithin, says}
 use Rattle.ring.proofs.Once.{told_by, one, one_within}
 use Rattle.ring.proofs.Ring as fn
+use Rattle.ring.specs.contracts.Ring as promise
 
 -- WHICHEVER CALL it is: v is the ring and s its slots, r is the result and z the slots then.
 module _ (a : ℕ) (call : Call) (v : Ring) (s z : List ℕ) (r : Answer) (m : MeetsWithin a call v s r z) where
@@ -54,7 +55,7 @@ module _ (a : ℕ) (call : Call) (v : Ring) (s z : List ℕ) (r : Answer) (m : M
   within_enough plain e = omega (arith, plain_below_12 ring call (tray v s), ap (λ (o : Outcome). o.number) (m.row ∙ plain))
 
 -- INSERT. In what follows e are the arguments as they are at the return, so that `e.1.0` are the slots then.
-module _ (κs : Lfts 1) (v : Ring) (s : Bor (List ℕ)) (i x a : ℕ) (r : Answer) (e : AtExit fn.insert_within.ended κs)
+module _ (κs : Lfts 1) (v : Ring) (s : Bor (List ℕ)) (i x a : ℕ) (r : Answer) (e : AtExit promise.insert_within.ended κs)
     (learnt : fn.insert_within.Reads.Learnt κs (v, (s, (i, (x, (a, tt))))) r e) where
   pub insert_within_12 : r.number ≡ 12 → MovesMore a ring (insert i x) (tray v s.now)
   insert_within_12 = within_12 a _ v s.now _ r learnt
@@ -63,12 +64,12 @@ module _ (κs : Lfts 1) (v : Ring) (s : Bor (List ℕ)) (i x a : ℕ) (r : Answe
   insert_within_then_12 = within_refused_12 a _ v s.now _ r learnt
 
   -- what `insert` itself answers and leaves, r' and e'
-  pub insert_within_plain : (r' : Answer) (e' : AtExit fn.insert.ended κs) → fn.insert.Reads.Learnt κs (v, (s, (i, (x, tt)))) r' e' → (r.number ≡ 12 → ⊥)
+  pub insert_within_plain : (r' : Answer) (e' : AtExit promise.insert.ended κs) → fn.insert.Reads.Learnt κs (v, (s, (i, (x, tt)))) r' e' → (r.number ≡ 12 → ⊥)
       → (r ≡ r') × (e.1.0.now ≡ e'.1.0.now)
   insert_within_plain r' e' plain other = one r r' _ _ (within_plain a _ v s.now _ r learnt other) plain
 
   -- what it answers and leaves with a larger allowance
-  pub insert_within_larger : (b : ℕ) (r' : Answer) (e' : AtExit fn.insert_within.ended κs) → fn.insert_within.Reads.Learnt κs (v, (s, (i, (x, (b, tt))))) r' e' → a ≤ b
+  pub insert_within_larger : (b : ℕ) (r' : Answer) (e' : AtExit promise.insert_within.ended κs) → fn.insert_within.Reads.Learnt κs (v, (s, (i, (x, (b, tt))))) r' e' → a ≤ b
       → (r.number ≡ 12 → ⊥) → (r ≡ r') × (e.1.0.now ≡ e'.1.0.now)
   insert_within_larger b r' e' wide larger other = one_within r r' _ _ (within_larger a _ v s.now _ r learnt b larger other) wide
 
@@ -76,7 +77,7 @@ module _ (κs : Lfts 1) (v : Ring) (s : Bor (List ℕ)) (i x a : ℕ) (r : Answe
   insert_within_enough enough = within_enough a _ v s.now _ r learnt (insert_enough a (tray v s.now) i enough x)
 
 -- REMOVE, in the same words.
-module _ (κs : Lfts 1) (v : Ring) (s : Bor (List ℕ)) (i a : ℕ) (r : Answer) (e : AtExit fn.remove_within.ended κs)
+module _ (κs : Lfts 1) (v : Ring) (s : Bor (List ℕ)) (i a : ℕ) (r : Answer) (e : AtExit promise.remove_within.ended κs)
     (learnt : fn.remove_within.Reads.Learnt κs (v, (s, (i, (a, tt)))) r e) where
   pub remove_within_12 : r.number ≡ 12 → MovesMore a ring (remove i) (tray v s.now)
   remove_within_12 = within_12 a _ v s.now _ r learnt
@@ -84,11 +85,11 @@ module _ (κs : Lfts 1) (v : Ring) (s : Bor (List ℕ)) (i a : ℕ) (r : Answer)
   pub remove_within_then_12 : v.total.sum < 2 ^ 64 → MovesMore a ring (remove i) (tray v s.now) → (r ≡ says 12 0 0 v) × (e.1.0.now ≡ s.now)
   remove_within_then_12 = within_refused_12 a _ v s.now _ r learnt
 
-  pub remove_within_plain : (r' : Answer) (e' : AtExit fn.remove.ended κs) → fn.remove.Reads.Learnt κs (v, (s, (i, tt))) r' e' → (r.number ≡ 12 → ⊥)
+  pub remove_within_plain : (r' : Answer) (e' : AtExit promise.remove.ended κs) → fn.remove.Reads.Learnt κs (v, (s, (i, tt))) r' e' → (r.number ≡ 12 → ⊥)
       → (r ≡ r') × (e.1.0.now ≡ e'.1.0.now)
   remove_within_plain r' e' plain other = one r r' _ _ (within_plain a _ v s.now _ r learnt other) plain
 
-  pub remove_within_larger : (b : ℕ) (r' : Answer) (e' : AtExit fn.remove_within.ended κs) → fn.remove_within.Reads.Learnt κs (v, (s, (i, (b, tt)))) r' e' → a ≤ b
+  pub remove_within_larger : (b : ℕ) (r' : Answer) (e' : AtExit promise.remove_within.ended κs) → fn.remove_within.Reads.Learnt κs (v, (s, (i, (b, tt)))) r' e' → a ≤ b
       → (r.number ≡ 12 → ⊥) → (r ≡ r') × (e.1.0.now ≡ e'.1.0.now)
   remove_within_larger b r' e' wide larger other = one_within r r' _ _ (within_larger a _ v s.now _ r learnt b larger other) wide
 

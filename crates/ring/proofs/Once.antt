@@ -12,11 +12,17 @@ use Rattle.ring.specs.declared.Ring.{Ring}
 use Rattle.ring.specs.declared.Answer.{Answer}
 use Rattle.ring.specs.Seen.{seen, Meets, MeetsWithin, Makes, state}
 use Rattle.ring.proofs.Ring as fn
+use Rattle.ring.specs.contracts.Ring as promise
 use Rattle.ring.proofs.state as state·fn
+use Rattle.ring.specs.contracts.state as state·promise
 use Rattle.ring.proofs.left as left·fn
+use Rattle.ring.specs.contracts.left as left·promise
 use Rattle.ring.proofs.refused as refused·fn
+use Rattle.ring.specs.contracts.refused as refused·promise
 use Rattle.ring.proofs.shows as shows·fn
+use Rattle.ring.specs.contracts.shows as shows·promise
 use Rattle.ring.proofs.done as done·fn
+use Rattle.ring.specs.contracts.done as done·promise
 
 -- an answer is told by what is seen of it, by the slot that it reports and by the total
 pub told_by : (o : Outcome) (n m : ℕ) (r r' : Answer) (s s' : List ℕ) → seen r s ≡ o → seen r' s' ≡ o → r.slot ≡ n → r'.slot ≡ n → r.ring.total.sum ≡ m → r'.ring.total.sum ≡ m
@@ -38,70 +44,70 @@ one_made r r' s s' p q = told_by _ _ _ r r' s s' p.row q.row p.slot q.slot p.tot
 
 -- In what follows a are the arguments, r and r' are results, and e and e' the arguments as they are at the return.
 module _ (κs : Lfts 1) where
-  pub new_once : Twice fn.new.ended κs (fn.new.Reads.Learnt κs) (λ r e r' e'. r ≡ r')
+  pub new_once : Twice promise.new.ended κs (fn.new.Reads.Learnt κs) (λ r e r' e'. r ≡ r')
   new_once a r r' e e' p q = (one_made r r' _ _ p q).0
 
-  pub with_capacity_once : Twice fn.with_capacity.ended κs (fn.with_capacity.Reads.Learnt κs) (λ r e r' e'. r ≡ r')
+  pub with_capacity_once : Twice promise.with_capacity.ended κs (fn.with_capacity.Reads.Learnt κs) (λ r e r' e'. r ≡ r')
   with_capacity_once a r r' e e' p q = (one_made r r' _ _ p q).0
 
-  pub len-once : Twice fn.len.ended κs (fn.len.Reads.Learnt κs) (λ r e r' e'. r ≡ r')
+  pub len-once : Twice promise.len.ended κs (fn.len.Reads.Learnt κs) (λ r e r' e'. r ≡ r')
   len-once a r r' e e' p q = (one r r' _ _ p q).0
 
-  pub read_once : Twice fn.read.ended κs (fn.read.Reads.Learnt κs) (λ r e r' e'. r ≡ r')
+  pub read_once : Twice promise.read.ended κs (fn.read.Reads.Learnt κs) (λ r e r' e'. r ≡ r')
   read_once a r r' e e' p q = (one r r' _ _ p q).0
 
-  pub reserve_once : Twice fn.reserve.ended κs (fn.reserve.Reads.Learnt κs) (λ r e r' e'. r ≡ r')
+  pub reserve_once : Twice promise.reserve.ended κs (fn.reserve.Reads.Learnt κs) (λ r e r' e'. r ≡ r')
   reserve_once a r r' e e' p q = (one r r' _ _ p q).0
 
-  pub write_once : Twice fn.write.ended κs (fn.write.Reads.Learnt κs) (λ r e r' e'. (r ≡ r') × (e.1.0.now ≡ e'.1.0.now))
+  pub write_once : Twice promise.write.ended κs (fn.write.Reads.Learnt κs) (λ r e r' e'. (r ≡ r') × (e.1.0.now ≡ e'.1.0.now))
   write_once a r r' e e' p q = one r r' _ _ p q
 
-  pub push_back_once : Twice fn.push_back.ended κs (fn.push_back.Reads.Learnt κs) (λ r e r' e'. (r ≡ r') × (e.1.0.now ≡ e'.1.0.now))
+  pub push_back_once : Twice promise.push_back.ended κs (fn.push_back.Reads.Learnt κs) (λ r e r' e'. (r ≡ r') × (e.1.0.now ≡ e'.1.0.now))
   push_back_once a r r' e e' p q = one r r' _ _ p q
 
-  pub push_front_once : Twice fn.push_front.ended κs (fn.push_front.Reads.Learnt κs) (λ r e r' e'. (r ≡ r') × (e.1.0.now ≡ e'.1.0.now))
+  pub push_front_once : Twice promise.push_front.ended κs (fn.push_front.Reads.Learnt κs) (λ r e r' e'. (r ≡ r') × (e.1.0.now ≡ e'.1.0.now))
   push_front_once a r r' e e' p q = one r r' _ _ p q
 
-  pub pop_back_once : Twice fn.pop_back.ended κs (fn.pop_back.Reads.Learnt κs) (λ r e r' e'. (r ≡ r') × (e.1.0.now ≡ e'.1.0.now))
+  pub pop_back_once : Twice promise.pop_back.ended κs (fn.pop_back.Reads.Learnt κs) (λ r e r' e'. (r ≡ r') × (e.1.0.now ≡ e'.1.0.now))
   pop_back_once a r r' e e' p q = one r r' _ _ p q
 
-  pub pop_front_once : Twice fn.pop_front.ended κs (fn.pop_front.Reads.Learnt κs) (λ r e r' e'. (r ≡ r') × (e.1.0.now ≡ e'.1.0.now))
+  pub pop_front_once : Twice promise.pop_front.ended κs (fn.pop_front.Reads.Learnt κs) (λ r e r' e'. (r ≡ r') × (e.1.0.now ≡ e'.1.0.now))
   pop_front_once a r r' e e' p q = one r r' _ _ p q
 
-  pub insert_once : Twice fn.insert.ended κs (fn.insert.Reads.Learnt κs) (λ r e r' e'. (r ≡ r') × (e.1.0.now ≡ e'.1.0.now))
+  pub insert_once : Twice promise.insert.ended κs (fn.insert.Reads.Learnt κs) (λ r e r' e'. (r ≡ r') × (e.1.0.now ≡ e'.1.0.now))
   insert_once a r r' e e' p q = one r r' _ _ p q
 
-  pub remove_once : Twice fn.remove.ended κs (fn.remove.Reads.Learnt κs) (λ r e r' e'. (r ≡ r') × (e.1.0.now ≡ e'.1.0.now))
+  pub remove_once : Twice promise.remove.ended κs (fn.remove.Reads.Learnt κs) (λ r e r' e'. (r ≡ r') × (e.1.0.now ≡ e'.1.0.now))
   remove_once a r r' e e' p q = one r r' _ _ p q
 
-  pub insert_within_once : Twice fn.insert_within.ended κs (fn.insert_within.Reads.Learnt κs) (λ r e r' e'. (r ≡ r') × (e.1.0.now ≡ e'.1.0.now))
+  pub insert_within_once : Twice promise.insert_within.ended κs (fn.insert_within.Reads.Learnt κs) (λ r e r' e'. (r ≡ r') × (e.1.0.now ≡ e'.1.0.now))
   insert_within_once a r r' e e' p q = one_within r r' _ _ p q
 
-  pub remove_within_once : Twice fn.remove_within.ended κs (fn.remove_within.Reads.Learnt κs) (λ r e r' e'. (r ≡ r') × (e.1.0.now ≡ e'.1.0.now))
+  pub remove_within_once : Twice promise.remove_within.ended κs (fn.remove_within.Reads.Learnt κs) (λ r e r' e'. (r ≡ r') × (e.1.0.now ≡ e'.1.0.now))
   remove_within_once a r r' e e' p q = one_within r r' _ _ p q
 
-  pub truncate_once : Twice fn.truncate.ended κs (fn.truncate.Reads.Learnt κs) (λ r e r' e'. (r ≡ r') × (e.1.0.now ≡ e'.1.0.now))
+  pub truncate_once : Twice promise.truncate.ended κs (fn.truncate.Reads.Learnt κs) (λ r e r' e'. (r ≡ r') × (e.1.0.now ≡ e'.1.0.now))
   truncate_once a r r' e e' p q = one r r' _ _ p q
 
-  pub resize_once : Twice fn.resize.ended κs (fn.resize.Reads.Learnt κs) (λ r e r' e'. (r ≡ r') × (e.1.0.now ≡ e'.1.0.now))
+  pub resize_once : Twice promise.resize.ended κs (fn.resize.Reads.Learnt κs) (λ r e r' e'. (r ≡ r') × (e.1.0.now ≡ e'.1.0.now))
   resize_once a r r' e e' p q = one r r' _ _ p q
 
-  pub clear_once : Twice fn.clear.ended κs (fn.clear.Reads.Learnt κs) (λ r e r' e'. (r ≡ r') × (e.1.0.now ≡ e'.1.0.now))
+  pub clear_once : Twice promise.clear.ended κs (fn.clear.Reads.Learnt κs) (λ r e r' e'. (r ≡ r') × (e.1.0.now ≡ e'.1.0.now))
   clear_once a r r' e e' p q = one r r' _ _ p q
 
 -- The functions that put a state or an answer together name the very value.
 module _ (κs : Lfts 0) where
-  pub state_once : Twice state·fn.ended κs (state·fn.Reads.Learnt κs) (λ r e r' e'. r ≡ r')
+  pub state_once : Twice state·promise.ended κs (state·fn.Reads.Learnt κs) (λ r e r' e'. r ≡ r')
   state_once a r r' e e' p q = p ∙ sym q
 
-  pub left_once : Twice left·fn.ended κs (left·fn.Reads.Learnt κs) (λ r e r' e'. r ≡ r')
+  pub left_once : Twice left·promise.ended κs (left·fn.Reads.Learnt κs) (λ r e r' e'. r ≡ r')
   left_once a r r' e e' p q = p ∙ sym q
 
-  pub refused_once : Twice refused·fn.ended κs (refused·fn.Reads.Learnt κs) (λ r e r' e'. r ≡ r')
+  pub refused_once : Twice refused·promise.ended κs (refused·fn.Reads.Learnt κs) (λ r e r' e'. r ≡ r')
   refused_once a r r' e e' p q = p ∙ sym q
 
-  pub shows_once : Twice shows·fn.ended κs (shows·fn.Reads.Learnt κs) (λ r e r' e'. r ≡ r')
+  pub shows_once : Twice shows·promise.ended κs (shows·fn.Reads.Learnt κs) (λ r e r' e'. r ≡ r')
   shows_once a r r' e e' p q = p ∙ sym q
 
-  pub done_once : Twice done·fn.ended κs (done·fn.Reads.Learnt κs) (λ r e r' e'. r ≡ r')
+  pub done_once : Twice done·promise.ended κs (done·fn.Reads.Learnt κs) (λ r e r' e'. r ≡ r')
   done_once a r r' e e' p q = p ∙ sym q

@@ -26,6 +26,7 @@ use Rattle.stored.specs.Reads.{reads, reading}
 use Rattle.stored.proofs.Exactly.{stands_told, standing_valid}
 use Rattle.stored.proofs.Given.{reads_either}
 use Rattle.stored.proofs.readers as readers
+use Rattle.stored.specs.contracts.readers as readers·promise
 
 -- a reading of a kind makes a container of that kind
 same_kind : (k k' : Kind) → alike k k' ≡ true → k ≡ k'
@@ -62,10 +63,10 @@ ours_read w k text slots o can e = (can, e, reading_arrives k text)
 
 -- In what follows a are the arguments, r is the result, and e the arguments as they are at the return.
 module _ (w : World) (κs : Lfts 2) where
-  pub ring_read_ours : (a : ArgsD readers.ring_read.signature κs) (r : ResD readers.ring_read.signature κs) (e : AtExit readers.ring_read.ended κs)
+  pub ring_read_ours : (a : ArgsD readers·promise.ring_read.signature κs) (r : ResD readers·promise.ring_read.signature κs) (e : AtExit readers·promise.ring_read.ended κs)
       → readers.ring_read.Reads.Learnt κs a r e → Ours w (arrived ring (reading ring a.0.now) a.1.0.now (rings.seen r e.1.0.now))
   ring_read_ours a r e learnt = ours_read w ring _ _ _ refl learnt.row
 
-  pub vector_read_ours : (a : ArgsD readers.vector_read.signature κs) (r : ResD readers.vector_read.signature κs) (e : AtExit readers.vector_read.ended κs)
+  pub vector_read_ours : (a : ArgsD readers·promise.vector_read.signature κs) (r : ResD readers·promise.vector_read.signature κs) (e : AtExit readers·promise.vector_read.ended κs)
       → readers.vector_read.Reads.Learnt κs a r e → Ours w (arrived vector (reading vector a.0.now) a.1.0.now (vectors.seen r e.1.0.now))
   vector_read_ours a r e learnt = ours_read w vector _ _ _ refl learnt.row

@@ -32,6 +32,7 @@ use Rattle.stored.proofs.ring_text.Reads as ring_text·reads
 use Rattle.stored.specs.contracts.vector_text as vector_text·fn
 use Rattle.stored.proofs.vector_text.Reads as vector_text·reads
 use Rattle.stored.proofs.readers as readers
+use Rattle.stored.specs.contracts.readers as readers·promise
 
 -- a text that was written, and the room that it had
 pub record Wrote (k : Kind) (t : Tray) (text : List ℕ) (w : Written) : Type 0 where
@@ -67,7 +68,7 @@ module _ (k : Kind) (t : Tray) (headed : t.head ≡ head_in k t.head) (words : W
 -- In what follows a are the arguments of the writer, r is its result and e the arguments as they are at the return; b, s and f those of the reader.
 module _ (κs κs2 : Lfts 2) where
   pub ring_there_and_back : (a : ArgsD ring_text·fn.signature κs) (r : ResD ring_text·fn.signature κs) (e : AtExit ring_text·fn.ended κs)
-      (b : ArgsD readers.ring_read.signature κs2) (s : ResD readers.ring_read.signature κs2) (f : AtExit readers.ring_read.ended κs2)
+      (b : ArgsD readers·promise.ring_read.signature κs2) (s : ResD readers·promise.ring_read.signature κs2) (f : AtExit readers·promise.ring_read.ended κs2)
       → ring_text·reads.Learnt κs a r e → readers.ring_read.Reads.Learnt κs2 b s f → r.number ≡ 0 → Words a.1.0.now
       → b.0.now ≡ take (size (length a.1.0.now)) e.1.1.0.now → length a.1.0.now ≡ length b.1.0.now
       → (s.number ≡ 0) × (s.ring.head ≡ a.0.head) × (s.ring.len ≡ a.0.len) × (f.1.0.now ≡ a.1.0.now)
@@ -85,7 +86,7 @@ module _ (κs κs2 : Lfts 2) where
       )
 
   pub vector_there_and_back : (a : ArgsD vector_text·fn.signature κs) (r : ResD vector_text·fn.signature κs) (e : AtExit vector_text·fn.ended κs)
-      (b : ArgsD readers.vector_read.signature κs2) (s : ResD readers.vector_read.signature κs2) (f : AtExit readers.vector_read.ended κs2)
+      (b : ArgsD readers·promise.vector_read.signature κs2) (s : ResD readers·promise.vector_read.signature κs2) (f : AtExit readers·promise.vector_read.ended κs2)
       → vector_text·reads.Learnt κs a r e → readers.vector_read.Reads.Learnt κs2 b s f → r.number ≡ 0 → Words a.1.0.now
       → b.0.now ≡ take (size (length a.1.0.now)) e.1.1.0.now → length a.1.0.now ≡ length b.1.0.now
       → (s.number ≡ 0) × (s.vector.len ≡ a.0.len) × (f.1.0.now ≡ a.1.0.now) × (s.vector.total.sum ≡ total (list vector (vectors.tray a.0 a.1.0.now)))
@@ -101,7 +102,7 @@ module _ (κs κs2 : Lfts 2) where
       )
 
   -- WRITTEN AGAIN: the container that was read of a text that some sound container has, into any text with room
-  pub ring_back_and_there : (b : ArgsD readers.ring_read.signature κs2) (s : ResD readers.ring_read.signature κs2) (f : AtExit readers.ring_read.ended κs2)
+  pub ring_back_and_there : (b : ArgsD readers·promise.ring_read.signature κs2) (s : ResD readers·promise.ring_read.signature κs2) (f : AtExit readers·promise.ring_read.ended κs2)
       (a : ArgsD ring_text·fn.signature κs) (r : ResD ring_text·fn.signature κs) (e : AtExit ring_text·fn.ended κs)
       → readers.ring_read.Reads.Learnt κs2 b s f → ring_text·reads.Learnt κs a r e → (t : Tray) → Sound ring t → b.0.now ≡ form ring t → cap t ≡ length b.1.0.now
       → a.0 ≡ s.ring → a.1.0.now ≡ f.1.0.now → length b.0.now ≤ length a.1.1.0.now → e.1.1.0.now ≡ put a.1.1.0.now 0 b.0.now
@@ -112,7 +113,7 @@ module _ (κs κs2 : Lfts 2) where
       ∙ ap (λ t. (writes ring t a.1.1.0.now).text) tray
       ∙ write_read ring t b.0.now b.1.0.now a.1.1.0.now sound is same room
 
-  pub vector_back_and_there : (b : ArgsD readers.vector_read.signature κs2) (s : ResD readers.vector_read.signature κs2) (f : AtExit readers.vector_read.ended κs2)
+  pub vector_back_and_there : (b : ArgsD readers·promise.vector_read.signature κs2) (s : ResD readers·promise.vector_read.signature κs2) (f : AtExit readers·promise.vector_read.ended κs2)
       (a : ArgsD vector_text·fn.signature κs) (r : ResD vector_text·fn.signature κs) (e : AtExit vector_text·fn.ended κs)
       → readers.vector_read.Reads.Learnt κs2 b s f → vector_text·reads.Learnt κs a r e → (t : Tray) → Sound vector t → b.0.now ≡ form vector t → cap t ≡ length b.1.0.now
       → a.0 ≡ s.vector → a.1.0.now ≡ f.1.0.now → length b.0.now ≤ length a.1.1.0.now → e.1.1.0.now ≡ put a.1.1.0.now 0 b.0.now

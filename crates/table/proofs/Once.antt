@@ -3,40 +3,49 @@ use mathlib.Core.Path.{◌≡◌, sym, ◌∙◌}
 use contract.Lifetimes.{Lfts}
 use Rattle.slots.proofs.Twice.{Twice}
 use Rattle.table.proofs.invalid_ring as invalid_ring·fn
+use Rattle.table.specs.contracts.invalid_ring as invalid_ring·promise
 use Rattle.table.proofs.invalid_vector as invalid_vector·fn
+use Rattle.table.specs.contracts.invalid_vector as invalid_vector·promise
 use Rattle.table.proofs.invalid_ring_or_beyond as invalid_ring_or_beyond·fn
+use Rattle.table.specs.contracts.invalid_ring_or_beyond as invalid_ring_or_beyond·promise
 use Rattle.table.proofs.invalid_vector_or_beyond as invalid_vector_or_beyond·fn
+use Rattle.table.specs.contracts.invalid_vector_or_beyond as invalid_vector_or_beyond·promise
 use Rattle.table.proofs.invalid_ring_or_full as invalid_ring_or_full·fn
+use Rattle.table.specs.contracts.invalid_ring_or_full as invalid_ring_or_full·promise
 use Rattle.table.proofs.invalid_vector_or_full as invalid_vector_or_full·fn
+use Rattle.table.specs.contracts.invalid_vector_or_full as invalid_vector_or_full·promise
 use Rattle.table.proofs.invalid_ring_or_no_step as invalid_ring_or_no_step·fn
+use Rattle.table.specs.contracts.invalid_ring_or_no_step as invalid_ring_or_no_step·promise
 use Rattle.table.proofs.invalid_vector_or_no_step as invalid_vector_or_no_step·fn
+use Rattle.table.specs.contracts.invalid_vector_or_no_step as invalid_vector_or_no_step·promise
 use Rattle.table.proofs.astray as astray·fn
+use Rattle.table.specs.contracts.astray as astray·promise
 
 -- a are the arguments, r and r' are flags, and e and e' the arguments as they are at the return
 module _ (κs : Lfts 0) where
-  pub invalid_ring_once : Twice invalid_ring·fn.ended κs (invalid_ring·fn.Reads.Learnt κs) (λ r e r' e'. r ≡ r')
+  pub invalid_ring_once : Twice invalid_ring·promise.ended κs (invalid_ring·fn.Reads.Learnt κs) (λ r e r' e'. r ≡ r')
   invalid_ring_once a r r' e e' p q = p.is ∙ sym q.is
 
-  pub invalid_vector_once : Twice invalid_vector·fn.ended κs (invalid_vector·fn.Reads.Learnt κs) (λ r e r' e'. r ≡ r')
+  pub invalid_vector_once : Twice invalid_vector·promise.ended κs (invalid_vector·fn.Reads.Learnt κs) (λ r e r' e'. r ≡ r')
   invalid_vector_once a r r' e e' p q = p.is ∙ sym q.is
 
-  pub invalid_ring_or_beyond_once : Twice invalid_ring_or_beyond·fn.ended κs (invalid_ring_or_beyond·fn.Reads.Learnt κs) (λ r e r' e'. r ≡ r')
+  pub invalid_ring_or_beyond_once : Twice invalid_ring_or_beyond·promise.ended κs (invalid_ring_or_beyond·fn.Reads.Learnt κs) (λ r e r' e'. r ≡ r')
   invalid_ring_or_beyond_once a r r' e e' p q = p.0.is ∙ sym q.0.is
 
-  pub invalid_vector_or_beyond_once : Twice invalid_vector_or_beyond·fn.ended κs (invalid_vector_or_beyond·fn.Reads.Learnt κs) (λ r e r' e'. r ≡ r')
+  pub invalid_vector_or_beyond_once : Twice invalid_vector_or_beyond·promise.ended κs (invalid_vector_or_beyond·fn.Reads.Learnt κs) (λ r e r' e'. r ≡ r')
   invalid_vector_or_beyond_once a r r' e e' p q = p.0.is ∙ sym q.0.is
 
-  pub invalid_ring_or_full_once : Twice invalid_ring_or_full·fn.ended κs (invalid_ring_or_full·fn.Reads.Learnt κs) (λ r e r' e'. r ≡ r')
+  pub invalid_ring_or_full_once : Twice invalid_ring_or_full·promise.ended κs (invalid_ring_or_full·fn.Reads.Learnt κs) (λ r e r' e'. r ≡ r')
   invalid_ring_or_full_once a r r' e e' p q = p.0.is ∙ sym q.0.is
 
-  pub invalid_vector_or_full_once : Twice invalid_vector_or_full·fn.ended κs (invalid_vector_or_full·fn.Reads.Learnt κs) (λ r e r' e'. r ≡ r')
+  pub invalid_vector_or_full_once : Twice invalid_vector_or_full·promise.ended κs (invalid_vector_or_full·fn.Reads.Learnt κs) (λ r e r' e'. r ≡ r')
   invalid_vector_or_full_once a r r' e e' p q = p.0.is ∙ sym q.0.is
 
-  pub invalid_ring_or_no_step_once : Twice invalid_ring_or_no_step·fn.ended κs (invalid_ring_or_no_step·fn.Reads.Learnt κs) (λ r e r' e'. r ≡ r')
+  pub invalid_ring_or_no_step_once : Twice invalid_ring_or_no_step·promise.ended κs (invalid_ring_or_no_step·fn.Reads.Learnt κs) (λ r e r' e'. r ≡ r')
   invalid_ring_or_no_step_once a r r' e e' p q = p.0.is ∙ sym q.0.is
 
-  pub invalid_vector_or_no_step_once : Twice invalid_vector_or_no_step·fn.ended κs (invalid_vector_or_no_step·fn.Reads.Learnt κs) (λ r e r' e'. r ≡ r')
+  pub invalid_vector_or_no_step_once : Twice invalid_vector_or_no_step·promise.ended κs (invalid_vector_or_no_step·fn.Reads.Learnt κs) (λ r e r' e'. r ≡ r')
   invalid_vector_or_no_step_once a r r' e e' p q = p.0.is ∙ sym q.0.is
 
-  pub astray_once : Twice astray·fn.ended κs (astray·fn.Reads.Learnt κs) (λ r e r' e'. r ≡ r')
+  pub astray_once : Twice astray·promise.ended κs (astray·fn.Reads.Learnt κs) (λ r e r' e'. r ≡ r')
   astray_once a r r' e e' p q = p.is ∙ sym q.is

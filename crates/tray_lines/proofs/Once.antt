@@ -15,9 +15,13 @@ use Rattle.tray_lines.specs.Acts.{Acts}
 use Rattle.tray_lines.specs.Answers.{Tells, told_seen}
 use Rattle.tray_lines.specs.Feeds.{Midway, Kept, midway, Ends, ended_seen, Fills}
 use Rattle.tray_lines.proofs.lines as lines·fn
+use Rattle.tray_lines.specs.contracts.lines as lines·promise
 use Rattle.tray_lines.proofs.acts as acts·fn
+use Rattle.tray_lines.specs.contracts.acts as acts·promise
 use Rattle.tray_lines.proofs.answers as answers·fn
+use Rattle.tray_lines.specs.contracts.answers as answers·promise
 use Rattle.tray_lines.proofs.feeds as feeds·fn
+use Rattle.tray_lines.specs.contracts.feeds as feeds·promise
 
 -- what is seen of a result gives the result back
 once : {A B : Type 0} (seen : A → B) (back : B → A) → ((a : A) → back (seen a) ≡ a) → (o : B) (a a' : A) → seen a ≡ o → seen a' ≡ o → a ≡ a'
@@ -37,37 +41,37 @@ state_of m = record { trays = trays_of m.world; line = m.line.bytes; count = m.l
 
 -- In what follows a are the arguments, r and r' are results, and e and e' the arguments as they are at the return.
 module _ (κs : Lfts 0) where
-  pub start_once : Twice acts·fn.start.ended κs (acts·fn.start.Reads.Learnt κs) (λ r e r' e'. r ≡ r')
+  pub start_once : Twice acts·promise.start.ended κs (acts·fn.start.Reads.Learnt κs) (λ r e r' e'. r ≡ r')
   start_once a r r' e e' p q = once world trays_of (λ t. refl) _ r r' p q
 
-  pub on_ring_once : Twice acts·fn.on_ring.ended κs (acts·fn.on_ring.Reads.Learnt κs) (λ r e r' e'. r ≡ r')
+  pub on_ring_once : Twice acts·promise.on_ring.ended κs (acts·fn.on_ring.Reads.Learnt κs) (λ r e r' e'. r ≡ r')
   on_ring_once a r r' e e' p q =
       ap₂ (λ (o : Outcome2) n. record { number = o.number; value = o.value; moves = o.moves; slot = n; me = ring_of o.first; other = ring_of o.second })
       (p.row ∙ sym q.row) (p.slot ∙ sym q.slot)
 
-  pub on_vector_once : Twice acts·fn.on_vector.ended κs (acts·fn.on_vector.Reads.Learnt κs) (λ r e r' e'. r ≡ r')
+  pub on_vector_once : Twice acts·promise.on_vector.ended κs (acts·fn.on_vector.Reads.Learnt κs) (λ r e r' e'. r ≡ r')
   on_vector_once a r r' e e' p q =
       ap₂ (λ (o : Outcome2) n. record { number = o.number; value = o.value; moves = o.moves; slot = n; me = vector_of o.first; other = vector_of o.second })
       (p.row ∙ sym q.row) (p.slot ∙ sym q.slot)
 
-  pub act_once : Twice acts·fn.act.ended κs (acts·fn.act.Reads.Learnt κs) (λ r e r' e'. r ≡ r')
+  pub act_once : Twice acts·promise.act.ended κs (acts·fn.act.Reads.Learnt κs) (λ r e r' e'. r ≡ r')
   act_once a r r' e e' p q = once acted_seen (λ (x : Acts). record { trays = trays_of x.world; answer = x.answer }) (λ d. refl) _ r r' p q
 
-  pub fresh_once : Twice feeds·fn.fresh.ended κs (feeds·fn.fresh.Reads.Learnt κs) (λ r e r' e'. r ≡ r')
+  pub fresh_once : Twice feeds·promise.fresh.ended κs (feeds·fn.fresh.Reads.Learnt κs) (λ r e r' e'. r ≡ r')
   fresh_once a r r' e e' p q = once midway state_of (λ s. refl) _ r r' p q
 
-  pub ended_once : Twice feeds·fn.ended.ended κs (feeds·fn.ended.Reads.Learnt κs) (λ r e r' e'. r ≡ r')
+  pub ended_once : Twice feeds·promise.ended.ended κs (feeds·promise.ended.Reads.Learnt κs) (λ r e r' e'. r ≡ r')
   ended_once a r r' e e' p q = once ended_seen (λ (x : Ends). record { trays = trays_of x.world; text = x.text; count = x.count }) (λ s. refl) _ r r' p q
 
 module _ (κs : Lfts 1) where
-  pub parse_once : Twice lines·fn.parse.ended κs (lines·fn.parse.Reads.Learnt κs) (λ r e r' e'. r ≡ r')
+  pub parse_once : Twice lines·promise.parse.ended κs (lines·fn.parse.Reads.Learnt κs) (λ r e r' e'. r ≡ r')
   parse_once a r r' e e' p q = p ∙ sym q
 
-  pub tell_once : Twice answers·fn.tell.ended κs (answers·fn.tell.Reads.Learnt κs) (λ r e r' e'. r ≡ r')
+  pub tell_once : Twice answers·promise.tell.ended κs (answers·fn.tell.Reads.Learnt κs) (λ r e r' e'. r ≡ r')
   tell_once a r r' e e' p q = once told_seen (λ (x : Tells). record { trays = trays_of x.world; text = x.text }) (λ t. refl) _ r r' p q
 
 module _ (κs : Lfts 2) where
-  pub feed_once : Twice feeds·fn.feed.ended κs (feeds·fn.feed.Reads.Learnt κs) (λ r e r' e'. (r ≡ r') × (e.1.1.0.now ≡ e'.1.1.0.now))
+  pub feed_once : Twice feeds·promise.feed.ended κs (feeds·fn.feed.Reads.Learnt κs) (λ r e r' e'. (r ≡ r') × (e.1.1.0.now ≡ e'.1.1.0.now))
   feed_once a r r' e e' p q = (
     ap (λ (x : Fills). record { state = state_of x.state; took = x.took; count = x.count }) (p ∙ sym q),
     ap (λ (x : Fills). x.out) (p ∙ sym q),

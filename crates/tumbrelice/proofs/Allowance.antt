@@ -15,6 +15,7 @@ use Rattle.table.proofs.Theorems.Within.{MovesMore, plain_below_12, twelve_when,
 use Rattle.table.proofs.Theorems.Room.{insert_enough, remove_enough}
 use Rattle.tumbrelice.specs.Heard.{number_in, heard, Held, Hears, HearsWithin, ring_tray, ring_of}
 use Rattle.tumbrelice.proofs.rings as rings
+use Rattle.tumbrelice.specs.contracts.rings as rings·promise
 
 -- whichever call it is
 hears_plain : (a : ℕ) (k : Kind) (call : Call) (b : Held) (word : ℕ) (t : Held) → HearsWithin a k call b word t → (number_in word ≡ 12 → ⊥) → Hears k call b word t
@@ -23,7 +24,7 @@ hears_plain a k call b word t h other =
     record { row = not_twelve a k call b.tray (heard word t.tray) h.row other; slot = h.slot ∙ beside.0; total = h.total ∙ beside.1 _ }
 
 -- Here a are the arguments, r is the word answered, and e the arguments as they are at the return.
-module _ (κs : Lfts 2) (a : ArgsD rings.tum_ring_insert_within.signature κs) (r : ResD rings.tum_ring_insert_within.signature κs) (e : AtExit rings.tum_ring_insert_within.ended κs)
+module _ (κs : Lfts 2) (a : ArgsD rings·promise.tum_ring_insert_within.signature κs) (r : ResD rings·promise.tum_ring_insert_within.signature κs) (e : AtExit rings·promise.tum_ring_insert_within.ended κs)
     (learnt : rings.tum_ring_insert_within.Reads.Learnt κs a r e) where
   pub tum_ring_insert_within_12 : number_in r ≡ 12 → MovesMore a.1.1.1.1.0 ring (insert a.1.1.0 a.1.1.1.0) (ring_tray a.1.0.now a.0.now)
   tum_ring_insert_within_12 = twelve_when _ ring _ _ _ learnt.row
@@ -43,7 +44,7 @@ module _ (κs : Lfts 2) (a : ArgsD rings.tum_ring_insert_within.signature κs) (
         ap (λ (o : Outcome). o.number) (learnt.row ∙ insert_enough _ _ _ enough _),
       )
 
-module _ (κs : Lfts 2) (a : ArgsD rings.tum_ring_remove_within.signature κs) (r : ResD rings.tum_ring_remove_within.signature κs) (e : AtExit rings.tum_ring_remove_within.ended κs)
+module _ (κs : Lfts 2) (a : ArgsD rings·promise.tum_ring_remove_within.signature κs) (r : ResD rings·promise.tum_ring_remove_within.signature κs) (e : AtExit rings·promise.tum_ring_remove_within.ended κs)
     (learnt : rings.tum_ring_remove_within.Reads.Learnt κs a r e) where
   pub tum_ring_remove_within_12 : number_in r ≡ 12 → MovesMore a.1.1.1.0 ring (remove a.1.1.0) (ring_tray a.1.0.now a.0.now)
   tum_ring_remove_within_12 = twelve_when _ ring _ _ _ learnt.row

@@ -17,9 +17,13 @@ use Rattle.tumbrelice.specs.HeardText.{HearsStored, HearsRead}
 use Rattle.tumbrelice.specs.HeardPart.{part_in}
 use Rattle.tumbrelice.proofs.Once.{one_word, one_held, one_of}
 use Rattle.tumbrelice.proofs.ring_walks as ring_walks
+use Rattle.tumbrelice.specs.contracts.ring_walks as ring_walks·promise
 use Rattle.tumbrelice.proofs.vector_walks as vector_walks
+use Rattle.tumbrelice.specs.contracts.vector_walks as vector_walks·promise
 use Rattle.tumbrelice.proofs.parts as parts
+use Rattle.tumbrelice.specs.contracts.parts as parts·promise
 use Rattle.tumbrelice.proofs.forms as forms
+use Rattle.tumbrelice.specs.contracts.forms as forms·promise
 
 one_at : {k : Kind} {s : Look} {b : Held} (w w' : ℕ) (u u' : Cursor) → HearsAt k s b w u → HearsAt k s b w' u' → (w ≡ w') × (u ≡ u')
 one_at w w' u u' p q =
@@ -53,80 +57,80 @@ one_stored w w' z z' p q =
 
 -- In what follows a are the arguments, r and r' are words, and e and e' the arguments as they are at the return.
 module _ (κs : Lfts 2) where
-  pub tum_vector_range_once : Twice parts.tum_vector_range.ended κs (parts.tum_vector_range.Reads.Learnt κs) (λ r e r' e'. r ≡ r')
+  pub tum_vector_range_once : Twice parts·promise.tum_vector_range.ended κs (parts.tum_vector_range.Reads.Learnt κs) (λ r e r' e'. r ≡ r')
   tum_vector_range_once a r r' e e' p q = one_part r r' (p ∙ sym q)
 
-  pub tum_vector_as_slice_once : Twice parts.tum_vector_as_slice.ended κs (parts.tum_vector_as_slice.Reads.Learnt κs) (λ r e r' e'. r ≡ r')
+  pub tum_vector_as_slice_once : Twice parts·promise.tum_vector_as_slice.ended κs (parts.tum_vector_as_slice.Reads.Learnt κs) (λ r e r' e'. r ≡ r')
   tum_vector_as_slice_once a r r' e e' p q = one_part r r' (p ∙ sym q)
 
-  pub tum_vector_as_ref_once : Twice parts.tum_vector_as_ref.ended κs (parts.tum_vector_as_ref.Reads.Learnt κs) (λ r e r' e'. r ≡ r')
+  pub tum_vector_as_ref_once : Twice parts·promise.tum_vector_as_ref.ended κs (parts.tum_vector_as_ref.Reads.Learnt κs) (λ r e r' e'. r ≡ r')
   tum_vector_as_ref_once a r r' e e' p q = one_part r r' (p ∙ sym q)
 
-  pub tum_vector_deref_once : Twice parts.tum_vector_deref.ended κs (parts.tum_vector_deref.Reads.Learnt κs) (λ r e r' e'. r ≡ r')
+  pub tum_vector_deref_once : Twice parts·promise.tum_vector_deref.ended κs (parts.tum_vector_deref.Reads.Learnt κs) (λ r e r' e'. r ≡ r')
   tum_vector_deref_once a r r' e e' p q = one_part r r' (p ∙ sym q)
 
-  pub tum_vector_as_mut_slice_once : Twice parts.tum_vector_as_mut_slice.ended κs (parts.tum_vector_as_mut_slice.Reads.Learnt κs) (λ r e r' e'. r ≡ r')
+  pub tum_vector_as_mut_slice_once : Twice parts·promise.tum_vector_as_mut_slice.ended κs (parts.tum_vector_as_mut_slice.Reads.Learnt κs) (λ r e r' e'. r ≡ r')
   tum_vector_as_mut_slice_once a r r' e e' p q = one_part r r' (p ∙ sym q)
 
-  pub tum_vector_deref_mut_once : Twice parts.tum_vector_deref_mut.ended κs (parts.tum_vector_deref_mut.Reads.Learnt κs) (λ r e r' e'. r ≡ r')
+  pub tum_vector_deref_mut_once : Twice parts·promise.tum_vector_deref_mut.ended κs (parts.tum_vector_deref_mut.Reads.Learnt κs) (λ r e r' e'. r ≡ r')
   tum_vector_deref_mut_once a r r' e e' p q = one_part r r' (p ∙ sym q)
 
 module _ (κs : Lfts 3) where
-  pub tum_ring_iter_once : Twice ring_walks.tum_ring_iter.ended κs (ring_walks.tum_ring_iter.Reads.Learnt κs) (λ r e r' e'. (r ≡ r') × (cursor_of e.1.1.0.now ≡ cursor_of e'.1.1.0.now))
+  pub tum_ring_iter_once : Twice ring_walks·promise.tum_ring_iter.ended κs (ring_walks.tum_ring_iter.Reads.Learnt κs) (λ r e r' e'. (r ≡ r') × (cursor_of e.1.1.0.now ≡ cursor_of e'.1.1.0.now))
   tum_ring_iter_once a r r' e e' p q = one_at r r' _ _ p q
 
-  pub tum_ring_into_iter_once : Twice ring_walks.tum_ring_into_iter.ended κs (ring_walks.tum_ring_into_iter.Reads.Learnt κs) (λ r e r' e'. (r ≡ r') × (cursor_of e.1.1.0.now ≡ cursor_of e'.1.1.0.now))
+  pub tum_ring_into_iter_once : Twice ring_walks·promise.tum_ring_into_iter.ended κs (ring_walks.tum_ring_into_iter.Reads.Learnt κs) (λ r e r' e'. (r ≡ r') × (cursor_of e.1.1.0.now ≡ cursor_of e'.1.1.0.now))
   tum_ring_into_iter_once a r r' e e' p q = one_at r r' _ _ p q
 
-  pub tum_ring_step_front_once : Twice ring_walks.tum_ring_step_front.ended κs (ring_walks.tum_ring_step_front.Reads.Learnt κs) (λ r e r' e'. (r ≡ r') × (cursor_of e.1.1.0.now ≡ cursor_of e'.1.1.0.now))
+  pub tum_ring_step_front_once : Twice ring_walks·promise.tum_ring_step_front.ended κs (ring_walks.tum_ring_step_front.Reads.Learnt κs) (λ r e r' e'. (r ≡ r') × (cursor_of e.1.1.0.now ≡ cursor_of e'.1.1.0.now))
   tum_ring_step_front_once a r r' e e' p q = one_at r r' _ _ p q
 
-  pub tum_ring_step_back_once : Twice ring_walks.tum_ring_step_back.ended κs (ring_walks.tum_ring_step_back.Reads.Learnt κs) (λ r e r' e'. (r ≡ r') × (cursor_of e.1.1.0.now ≡ cursor_of e'.1.1.0.now))
+  pub tum_ring_step_back_once : Twice ring_walks·promise.tum_ring_step_back.ended κs (ring_walks.tum_ring_step_back.Reads.Learnt κs) (λ r e r' e'. (r ≡ r') × (cursor_of e.1.1.0.now ≡ cursor_of e'.1.1.0.now))
   tum_ring_step_back_once a r r' e e' p q = one_at r r' _ _ p q
 
-  pub tum_ring_peek_front_once : Twice ring_walks.tum_ring_peek_front.ended κs (ring_walks.tum_ring_peek_front.Reads.Learnt κs) (λ r e r' e'. r ≡ r')
+  pub tum_ring_peek_front_once : Twice ring_walks·promise.tum_ring_peek_front.ended κs (ring_walks.tum_ring_peek_front.Reads.Learnt κs) (λ r e r' e'. r ≡ r')
   tum_ring_peek_front_once a r r' e e' p q = (one_at r r' _ _ p q).0
 
-  pub tum_ring_peek_back_once : Twice ring_walks.tum_ring_peek_back.ended κs (ring_walks.tum_ring_peek_back.Reads.Learnt κs) (λ r e r' e'. r ≡ r')
+  pub tum_ring_peek_back_once : Twice ring_walks·promise.tum_ring_peek_back.ended κs (ring_walks.tum_ring_peek_back.Reads.Learnt κs) (λ r e r' e'. r ≡ r')
   tum_ring_peek_back_once a r r' e e' p q = (one_at r r' _ _ p q).0
 
-  pub tum_vector_iter_once : Twice vector_walks.tum_vector_iter.ended κs (vector_walks.tum_vector_iter.Reads.Learnt κs) (λ r e r' e'. (r ≡ r') × (cursor_of e.1.1.0.now ≡ cursor_of e'.1.1.0.now))
+  pub tum_vector_iter_once : Twice vector_walks·promise.tum_vector_iter.ended κs (vector_walks.tum_vector_iter.Reads.Learnt κs) (λ r e r' e'. (r ≡ r') × (cursor_of e.1.1.0.now ≡ cursor_of e'.1.1.0.now))
   tum_vector_iter_once a r r' e e' p q = one_at r r' _ _ p q
 
-  pub tum_vector_into_iter_once : Twice vector_walks.tum_vector_into_iter.ended κs (vector_walks.tum_vector_into_iter.Reads.Learnt κs) (λ r e r' e'. (r ≡ r') × (cursor_of e.1.1.0.now ≡ cursor_of e'.1.1.0.now))
+  pub tum_vector_into_iter_once : Twice vector_walks·promise.tum_vector_into_iter.ended κs (vector_walks.tum_vector_into_iter.Reads.Learnt κs) (λ r e r' e'. (r ≡ r') × (cursor_of e.1.1.0.now ≡ cursor_of e'.1.1.0.now))
   tum_vector_into_iter_once a r r' e e' p q = one_at r r' _ _ p q
 
-  pub tum_vector_step_front_once : Twice vector_walks.tum_vector_step_front.ended κs (vector_walks.tum_vector_step_front.Reads.Learnt κs) (λ r e r' e'. (r ≡ r') × (cursor_of e.1.1.0.now ≡ cursor_of e'.1.1.0.now))
+  pub tum_vector_step_front_once : Twice vector_walks·promise.tum_vector_step_front.ended κs (vector_walks.tum_vector_step_front.Reads.Learnt κs) (λ r e r' e'. (r ≡ r') × (cursor_of e.1.1.0.now ≡ cursor_of e'.1.1.0.now))
   tum_vector_step_front_once a r r' e e' p q = one_at r r' _ _ p q
 
-  pub tum_vector_step_back_once : Twice vector_walks.tum_vector_step_back.ended κs (vector_walks.tum_vector_step_back.Reads.Learnt κs) (λ r e r' e'. (r ≡ r') × (cursor_of e.1.1.0.now ≡ cursor_of e'.1.1.0.now))
+  pub tum_vector_step_back_once : Twice vector_walks·promise.tum_vector_step_back.ended κs (vector_walks.tum_vector_step_back.Reads.Learnt κs) (λ r e r' e'. (r ≡ r') × (cursor_of e.1.1.0.now ≡ cursor_of e'.1.1.0.now))
   tum_vector_step_back_once a r r' e e' p q = one_at r r' _ _ p q
 
-  pub tum_vector_peek_front_once : Twice vector_walks.tum_vector_peek_front.ended κs (vector_walks.tum_vector_peek_front.Reads.Learnt κs) (λ r e r' e'. r ≡ r')
+  pub tum_vector_peek_front_once : Twice vector_walks·promise.tum_vector_peek_front.ended κs (vector_walks.tum_vector_peek_front.Reads.Learnt κs) (λ r e r' e'. r ≡ r')
   tum_vector_peek_front_once a r r' e e' p q = (one_at r r' _ _ p q).0
 
-  pub tum_vector_peek_back_once : Twice vector_walks.tum_vector_peek_back.ended κs (vector_walks.tum_vector_peek_back.Reads.Learnt κs) (λ r e r' e'. r ≡ r')
+  pub tum_vector_peek_back_once : Twice vector_walks·promise.tum_vector_peek_back.ended κs (vector_walks.tum_vector_peek_back.Reads.Learnt κs) (λ r e r' e'. r ≡ r')
   tum_vector_peek_back_once a r r' e e' p q = (one_at r r' _ _ p q).0
 
-  pub tum_ring_text_once : Twice forms.tum_ring_text.ended κs (forms.tum_ring_text.Reads.Learnt κs) (λ r e r' e'. (r ≡ r') × (e.1.1.0.now ≡ e'.1.1.0.now))
+  pub tum_ring_text_once : Twice forms·promise.tum_ring_text.ended κs (forms.tum_ring_text.Reads.Learnt κs) (λ r e r' e'. (r ≡ r') × (e.1.1.0.now ≡ e'.1.1.0.now))
   tum_ring_text_once a r r' e e' p q = one_stored r r' _ _ p q
 
-  pub tum_vector_text_once : Twice forms.tum_vector_text.ended κs (forms.tum_vector_text.Reads.Learnt κs) (λ r e r' e'. (r ≡ r') × (e.1.1.0.now ≡ e'.1.1.0.now))
+  pub tum_vector_text_once : Twice forms·promise.tum_vector_text.ended κs (forms.tum_vector_text.Reads.Learnt κs) (λ r e r' e'. (r ≡ r') × (e.1.1.0.now ≡ e'.1.1.0.now))
   tum_vector_text_once a r r' e e' p q = one_stored r r' _ _ p q
 
-  pub tum_ring_text_read_once : Twice forms.tum_ring_text_read.ended κs (forms.tum_ring_text_read.Reads.Learnt κs) (λ r e r' e'. (r ≡ r') × (ring_of e.1.0.now e.0.now ≡ ring_of e'.1.0.now e'.0.now))
+  pub tum_ring_text_read_once : Twice forms·promise.tum_ring_text_read.ended κs (forms.tum_ring_text_read.Reads.Learnt κs) (λ r e r' e'. (r ≡ r') × (ring_of e.1.0.now e.0.now ≡ ring_of e'.1.0.now e'.0.now))
   tum_ring_text_read_once a r r' e e' p q = one_read r r' _ _ p q
 
-  pub tum_vector_text_read_once : Twice forms.tum_vector_text_read.ended κs (forms.tum_vector_text_read.Reads.Learnt κs) (λ r e r' e'. (r ≡ r') × (vector_of e.1.0.now e.0.now ≡ vector_of e'.1.0.now e'.0.now))
+  pub tum_vector_text_read_once : Twice forms·promise.tum_vector_text_read.ended κs (forms.tum_vector_text_read.Reads.Learnt κs) (λ r e r' e'. (r ≡ r') × (vector_of e.1.0.now e.0.now ≡ vector_of e'.1.0.now e'.0.now))
   tum_vector_text_read_once a r r' e e' p q = one_read r r' _ _ p q
 
 module _ (κs : Lfts 1) where
-  pub tum_stored_check_once : Twice forms.tum_stored_check.ended κs (forms.tum_stored_check.Reads.Learnt κs) (λ r e r' e'. r ≡ r')
+  pub tum_stored_check_once : Twice forms·promise.tum_stored_check.ended κs (forms.tum_stored_check.Reads.Learnt κs) (λ r e r' e'. r ≡ r')
   tum_stored_check_once a r r' e e' p q = p ∙ sym q
 
 module _ (κs : Lfts 5) where
-  pub tum_ring_from_iter_once : Twice ring_walks.tum_ring_from_iter.ended κs (ring_walks.tum_ring_from_iter.Reads.Learnt κs) (λ r e r' e'. (r ≡ r') × (cursor_of e.1.1.0.now ≡ cursor_of e'.1.1.0.now) × (vector_of e.1.1.1.1.0.now e.1.1.1.0.now ≡ vector_of e'.1.1.1.1.0.now e'.1.1.1.0.now))
+  pub tum_ring_from_iter_once : Twice ring_walks·promise.tum_ring_from_iter.ended κs (ring_walks.tum_ring_from_iter.Reads.Learnt κs) (λ r e r' e'. (r ≡ r') × (cursor_of e.1.1.0.now ≡ cursor_of e'.1.1.0.now) × (vector_of e.1.1.1.1.0.now e.1.1.1.0.now ≡ vector_of e'.1.1.1.1.0.now e'.1.1.1.0.now))
   tum_ring_from_iter_once a r r' e e' p q = one_into r r' _ _ _ _ p q
 
-  pub tum_vector_from_iter_once : Twice vector_walks.tum_vector_from_iter.ended κs (vector_walks.tum_vector_from_iter.Reads.Learnt κs) (λ r e r' e'. (r ≡ r') × (cursor_of e.1.1.0.now ≡ cursor_of e'.1.1.0.now) × (vector_of e.1.1.1.1.0.now e.1.1.1.0.now ≡ vector_of e'.1.1.1.1.0.now e'.1.1.1.0.now))
+  pub tum_vector_from_iter_once : Twice vector_walks·promise.tum_vector_from_iter.ended κs (vector_walks.tum_vector_from_iter.Reads.Learnt κs) (λ r e r' e'. (r ≡ r') × (cursor_of e.1.1.0.now ≡ cursor_of e'.1.1.0.now) × (vector_of e.1.1.1.1.0.now e.1.1.1.0.now ≡ vector_of e'.1.1.1.1.0.now e'.1.1.1.0.now))
   tum_vector_from_iter_once a r r' e e' p q = one_into r r' _ _ _ _ p q

@@ -12,10 +12,15 @@ use Rattle.vector.specs.declared.Answer.{Answer}
 use Rattle.vector.specs.Seen.{seen, Meets, Makes, state}
 use Rattle.table.proofs.Laws.Lending.{one_part}
 use Rattle.vector.proofs.Vector as fns
+use Rattle.vector.specs.contracts.Vector as fns·promise
 use Rattle.vector.proofs.state as state·fn
+use Rattle.vector.specs.contracts.state as state·promise
 use Rattle.vector.proofs.refused as refused·fn
+use Rattle.vector.specs.contracts.refused as refused·promise
 use Rattle.vector.proofs.shows as shows·fn
+use Rattle.vector.specs.contracts.shows as shows·promise
 use Rattle.vector.proofs.done as done·fn
+use Rattle.vector.specs.contracts.done as done·promise
 
 -- an answer is told by what is seen of it, by the slot that it reports and by the total
 pub told_by : (o : Outcome) (n m : ℕ) (r r' : Answer) (s s' : List ℕ) → seen r s ≡ o → seen r' s' ≡ o → r.slot ≡ n → r'.slot ≡ n → r.vector.total.sum ≡ m → r'.vector.total.sum ≡ m
@@ -33,95 +38,95 @@ one_made : {m : Making} {b : List ℕ} (r r' : Answer) (s s' : List ℕ) → Mak
 one_made r r' s s' p q = told_by _ _ _ r r' s s' p.row q.row p.slot q.slot p.total q.total
 
 module _ (κs : Lfts 1) where
-  pub new_once : Twice fns.new.ended κs (fns.new.Reads.Learnt κs) (λ r e r' e'. r ≡ r')
+  pub new_once : Twice fns·promise.new.ended κs (fns.new.Reads.Learnt κs) (λ r e r' e'. r ≡ r')
   new_once a r r' e e' l l' = (one_made r r' _ _ l l').0
 
-  pub with_capacity_once : Twice fns.with_capacity.ended κs (fns.with_capacity.Reads.Learnt κs) (λ r e r' e'. r ≡ r')
+  pub with_capacity_once : Twice fns·promise.with_capacity.ended κs (fns.with_capacity.Reads.Learnt κs) (λ r e r' e'. r ≡ r')
   with_capacity_once a r r' e e' l l' = (one_made r r' _ _ l l').0
 
-  pub from_elem_once : Twice fns.from_elem.ended κs (fns.from_elem.Reads.Learnt κs) (λ r e r' e'. (r ≡ r') × (e.0.now ≡ e'.0.now))
+  pub from_elem_once : Twice fns·promise.from_elem.ended κs (fns.from_elem.Reads.Learnt κs) (λ r e r' e'. (r ≡ r') × (e.0.now ≡ e'.0.now))
   from_elem_once a r r' e e' = one_made r r' _ _
 
-  pub len-once : Twice fns.len.ended κs (fns.len.Reads.Learnt κs) (λ r e r' e'. r ≡ r')
+  pub len-once : Twice fns·promise.len.ended κs (fns.len.Reads.Learnt κs) (λ r e r' e'. r ≡ r')
   len-once a r r' e e' l l' = (one r r' _ _ l l').0
 
-  pub is_empty_once : Twice fns.is_empty.ended κs (fns.is_empty.Reads.Learnt κs) (λ r e r' e'. r ≡ r')
+  pub is_empty_once : Twice fns·promise.is_empty.ended κs (fns.is_empty.Reads.Learnt κs) (λ r e r' e'. r ≡ r')
   is_empty_once a r r' e e' l l' = (one r r' _ _ l l').0
 
-  pub read_once : Twice fns.read.ended κs (fns.read.Reads.Learnt κs) (λ r e r' e'. r ≡ r')
+  pub read_once : Twice fns·promise.read.ended κs (fns.read.Reads.Learnt κs) (λ r e r' e'. r ≡ r')
   read_once a r r' e e' l l' = (one r r' _ _ l l').0
 
-  pub reserve_once : Twice fns.reserve.ended κs (fns.reserve.Reads.Learnt κs) (λ r e r' e'. r ≡ r')
+  pub reserve_once : Twice fns·promise.reserve.ended κs (fns.reserve.Reads.Learnt κs) (λ r e r' e'. r ≡ r')
   reserve_once a r r' e e' l l' = (one r r' _ _ l l').0
 
-  pub try_reserve_once : Twice fns.try_reserve.ended κs (fns.try_reserve.Reads.Learnt κs) (λ r e r' e'. r ≡ r')
+  pub try_reserve_once : Twice fns·promise.try_reserve.ended κs (fns.try_reserve.Reads.Learnt κs) (λ r e r' e'. r ≡ r')
   try_reserve_once a r r' e e' l l' = (one r r' _ _ l l').0
 
-  pub try_reserve_exact_once : Twice fns.try_reserve_exact.ended κs (fns.try_reserve_exact.Reads.Learnt κs) (λ r e r' e'. r ≡ r')
+  pub try_reserve_exact_once : Twice fns·promise.try_reserve_exact.ended κs (fns.try_reserve_exact.Reads.Learnt κs) (λ r e r' e'. r ≡ r')
   try_reserve_exact_once a r r' e e' l l' = (one r r' _ _ l l').0
 
-  pub ask_range_once : Twice fns.ask_range.ended κs (fns.ask_range.Reads.Learnt κs) (λ r e r' e'. r ≡ r')
+  pub ask_range_once : Twice fns·promise.ask_range.ended κs (fns.ask_range.Reads.Learnt κs) (λ r e r' e'. r ≡ r')
   ask_range_once a r r' e e' l l' = (one r r' _ _ l l').0
 
-  pub write_once : Twice fns.write.ended κs (fns.write.Reads.Learnt κs) (λ r e r' e'. (r ≡ r') × (e.1.0.now ≡ e'.1.0.now))
+  pub write_once : Twice fns·promise.write.ended κs (fns.write.Reads.Learnt κs) (λ r e r' e'. (r ≡ r') × (e.1.0.now ≡ e'.1.0.now))
   write_once a r r' e e' = one r r' _ _
 
-  pub push_once : Twice fns.push.ended κs (fns.push.Reads.Learnt κs) (λ r e r' e'. (r ≡ r') × (e.1.0.now ≡ e'.1.0.now))
+  pub push_once : Twice fns·promise.push.ended κs (fns.push.Reads.Learnt κs) (λ r e r' e'. (r ≡ r') × (e.1.0.now ≡ e'.1.0.now))
   push_once a r r' e e' = one r r' _ _
 
-  pub pop_once : Twice fns.pop.ended κs (fns.pop.Reads.Learnt κs) (λ r e r' e'. (r ≡ r') × (e.1.0.now ≡ e'.1.0.now))
+  pub pop_once : Twice fns·promise.pop.ended κs (fns.pop.Reads.Learnt κs) (λ r e r' e'. (r ≡ r') × (e.1.0.now ≡ e'.1.0.now))
   pop_once a r r' e e' = one r r' _ _
 
-  pub insert_once : Twice fns.insert.ended κs (fns.insert.Reads.Learnt κs) (λ r e r' e'. (r ≡ r') × (e.1.0.now ≡ e'.1.0.now))
+  pub insert_once : Twice fns·promise.insert.ended κs (fns.insert.Reads.Learnt κs) (λ r e r' e'. (r ≡ r') × (e.1.0.now ≡ e'.1.0.now))
   insert_once a r r' e e' = one r r' _ _
 
-  pub remove_once : Twice fns.remove.ended κs (fns.remove.Reads.Learnt κs) (λ r e r' e'. (r ≡ r') × (e.1.0.now ≡ e'.1.0.now))
+  pub remove_once : Twice fns·promise.remove.ended κs (fns.remove.Reads.Learnt κs) (λ r e r' e'. (r ≡ r') × (e.1.0.now ≡ e'.1.0.now))
   remove_once a r r' e e' = one r r' _ _
 
-  pub swap_remove_once : Twice fns.swap_remove.ended κs (fns.swap_remove.Reads.Learnt κs) (λ r e r' e'. (r ≡ r') × (e.1.0.now ≡ e'.1.0.now))
+  pub swap_remove_once : Twice fns·promise.swap_remove.ended κs (fns.swap_remove.Reads.Learnt κs) (λ r e r' e'. (r ≡ r') × (e.1.0.now ≡ e'.1.0.now))
   swap_remove_once a r r' e e' = one r r' _ _
 
-  pub truncate_once : Twice fns.truncate.ended κs (fns.truncate.Reads.Learnt κs) (λ r e r' e'. (r ≡ r') × (e.1.0.now ≡ e'.1.0.now))
+  pub truncate_once : Twice fns·promise.truncate.ended κs (fns.truncate.Reads.Learnt κs) (λ r e r' e'. (r ≡ r') × (e.1.0.now ≡ e'.1.0.now))
   truncate_once a r r' e e' = one r r' _ _
 
-  pub resize_once : Twice fns.resize.ended κs (fns.resize.Reads.Learnt κs) (λ r e r' e'. (r ≡ r') × (e.1.0.now ≡ e'.1.0.now))
+  pub resize_once : Twice fns·promise.resize.ended κs (fns.resize.Reads.Learnt κs) (λ r e r' e'. (r ≡ r') × (e.1.0.now ≡ e'.1.0.now))
   resize_once a r r' e e' = one r r' _ _
 
-  pub clear_once : Twice fns.clear.ended κs (fns.clear.Reads.Learnt κs) (λ r e r' e'. (r ≡ r') × (e.1.0.now ≡ e'.1.0.now))
+  pub clear_once : Twice fns·promise.clear.ended κs (fns.clear.Reads.Learnt κs) (λ r e r' e'. (r ≡ r') × (e.1.0.now ≡ e'.1.0.now))
   clear_once a r r' e e' = one r r' _ _
 
-  pub range_once : Twice fns.range.ended κs (fns.range.Reads.Learnt κs) (λ r e r' e'. (r.ref_ptr ≡ r'.ref_ptr) × (r.now ≡ r'.now))
+  pub range_once : Twice fns·promise.range.ended κs (fns.range.Reads.Learnt κs) (λ r e r' e'. (r.ref_ptr ≡ r'.ref_ptr) × (r.now ≡ r'.now))
   range_once a r r' e e' = one_part _ _ _ r r'
 
-  pub as_slice_once : Twice fns.as_slice.ended κs (fns.as_slice.Reads.Learnt κs) (λ r e r' e'. (r.ref_ptr ≡ r'.ref_ptr) × (r.now ≡ r'.now))
+  pub as_slice_once : Twice fns·promise.as_slice.ended κs (fns.as_slice.Reads.Learnt κs) (λ r e r' e'. (r.ref_ptr ≡ r'.ref_ptr) × (r.now ≡ r'.now))
   as_slice_once a r r' e e' = one_part _ _ _ r r'
 
-  pub as_ref_once : Twice fns.as_ref.ended κs (fns.as_ref.Reads.Learnt κs) (λ r e r' e'. (r.ref_ptr ≡ r'.ref_ptr) × (r.now ≡ r'.now))
+  pub as_ref_once : Twice fns·promise.as_ref.ended κs (fns.as_ref.Reads.Learnt κs) (λ r e r' e'. (r.ref_ptr ≡ r'.ref_ptr) × (r.now ≡ r'.now))
   as_ref_once a r r' e e' = one_part _ _ _ r r'
 
-  pub deref_once : Twice fns.deref.ended κs (fns.deref.Reads.Learnt κs) (λ r e r' e'. (r.ref_ptr ≡ r'.ref_ptr) × (r.now ≡ r'.now))
+  pub deref_once : Twice fns·promise.deref.ended κs (fns.deref.Reads.Learnt κs) (λ r e r' e'. (r.ref_ptr ≡ r'.ref_ptr) × (r.now ≡ r'.now))
   deref_once a r r' e e' = one_part _ _ _ r r'
 
-  pub as_mut_slice_once : Twice fns.as_mut_slice.ended κs (fns.as_mut_slice.Reads.Learnt κs) (λ r e r' e'. (r.ref_ptr ≡ r'.ref_ptr) × (r.now ≡ r'.now))
+  pub as_mut_slice_once : Twice fns·promise.as_mut_slice.ended κs (fns.as_mut_slice.Reads.Learnt κs) (λ r e r' e'. (r.ref_ptr ≡ r'.ref_ptr) × (r.now ≡ r'.now))
   as_mut_slice_once a r r' e e' = one_part _ _ _ r r'
 
-  pub deref_mut_once : Twice fns.deref_mut.ended κs (fns.deref_mut.Reads.Learnt κs) (λ r e r' e'. (r.ref_ptr ≡ r'.ref_ptr) × (r.now ≡ r'.now))
+  pub deref_mut_once : Twice fns·promise.deref_mut.ended κs (fns.deref_mut.Reads.Learnt κs) (λ r e r' e'. (r.ref_ptr ≡ r'.ref_ptr) × (r.now ≡ r'.now))
   deref_mut_once a r r' e e' = one_part _ _ _ r r'
 
 module _ (κs : Lfts 2) where
-  pub extend_from_slice_once : Twice fns.extend_from_slice.ended κs (fns.extend_from_slice.Reads.Learnt κs) (λ r e r' e'. (r ≡ r') × (e.1.0.now ≡ e'.1.0.now))
+  pub extend_from_slice_once : Twice fns·promise.extend_from_slice.ended κs (fns.extend_from_slice.Reads.Learnt κs) (λ r e r' e'. (r ≡ r') × (e.1.0.now ≡ e'.1.0.now))
   extend_from_slice_once a r r' e e' = one r r' _ _
 
 -- The functions that put a state or an answer together name the very value.
 module _ (κs : Lfts 0) where
-  pub state_once : Twice state·fn.ended κs (state·fn.Reads.Learnt κs) (λ r e r' e'. r ≡ r')
+  pub state_once : Twice state·promise.ended κs (state·fn.Reads.Learnt κs) (λ r e r' e'. r ≡ r')
   state_once a r r' e e' p q = p ∙ sym q
 
-  pub refused_once : Twice refused·fn.ended κs (refused·fn.Reads.Learnt κs) (λ r e r' e'. r ≡ r')
+  pub refused_once : Twice refused·promise.ended κs (refused·fn.Reads.Learnt κs) (λ r e r' e'. r ≡ r')
   refused_once a r r' e e' p q = p ∙ sym q
 
-  pub shows_once : Twice shows·fn.ended κs (shows·fn.Reads.Learnt κs) (λ r e r' e'. r ≡ r')
+  pub shows_once : Twice shows·promise.ended κs (shows·fn.Reads.Learnt κs) (λ r e r' e'. r ≡ r')
   shows_once a r r' e e' p q = p ∙ sym q
 
-  pub done_once : Twice done·fn.ended κs (done·fn.Reads.Learnt κs) (λ r e r' e'. r ≡ r')
+  pub done_once : Twice done·promise.ended κs (done·fn.Reads.Learnt κs) (λ r e r' e'. r ≡ r')
   done_once a r r' e e' p q = p ∙ sym q

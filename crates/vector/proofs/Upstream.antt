@@ -19,6 +19,7 @@ use Rattle.vector.specs.declared.Vector.{Vector}
 use Rattle.vector.specs.declared.Answer.{Answer}
 use Rattle.vector.specs.Seen.{tray}
 use Rattle.vector.proofs.Vector as fn
+use Rattle.vector.specs.contracts.Vector as promise
 
 -- upstream's `vec@`: the list of this vector in these slots
 abbrev pub view : Vector → Bor (List ℕ) → List ℕ
@@ -29,21 +30,21 @@ abbrev pub Valid : Vector → Bor (List ℕ) → Type 0
 Valid v s = invalid vector (tray v s.now) ≡ false
 
 -- In what follows v is the vector and s its slots, r is the result, and e the arguments as they are at the return, so that `e.1.0` are the slots then.
-module _ (κs : Lfts 1) (s : Bor (List ℕ)) (r : Answer) (e : AtExit fn.new.ended κs) (learnt : fn.new.Reads.Learnt κs (s, tt) r e) where
+module _ (κs : Lfts 1) (s : Bor (List ℕ)) (r : Answer) (e : AtExit promise.new.ended κs) (learnt : fn.new.Reads.Learnt κs (s, tt) r e) where
   pub new_list : view r.vector s ≡ []
   new_list = law.new_list vector _ _ learnt.row
 
   pub new_answers : length s.now ≤ 4096 → r.number ≡ 0
   new_answers few = law.new_answers vector _ _ few learnt.row
 
-module _ (κs : Lfts 1) (s : Bor (List ℕ)) (k : ℕ) (r : Answer) (e : AtExit fn.with_capacity.ended κs) (learnt : fn.with_capacity.Reads.Learnt κs (s, (k, tt)) r e) where
+module _ (κs : Lfts 1) (s : Bor (List ℕ)) (k : ℕ) (r : Answer) (e : AtExit promise.with_capacity.ended κs) (learnt : fn.with_capacity.Reads.Learnt κs (s, (k, tt)) r e) where
   pub with_capacity_list : view r.vector s ≡ []
   with_capacity_list = law.with_capacity_list vector _ _ _ learnt.row
 
   pub with_capacity_answers : length s.now ≤ 4096 → IfHolds r.number (length s.now) k
   with_capacity_answers few = law.with_capacity_answers vector _ _ few _ learnt.row
 
-module _ (κs : Lfts 1) (s : Bor (List ℕ)) (k x : ℕ) (r : Answer) (e : AtExit fn.from_elem.ended κs) (learnt : fn.from_elem.Reads.Learnt κs (s, (k, (x, tt))) r e) where
+module _ (κs : Lfts 1) (s : Bor (List ℕ)) (k x : ℕ) (r : Answer) (e : AtExit promise.from_elem.ended κs) (learnt : fn.from_elem.Reads.Learnt κs (s, (k, (x, tt))) r e) where
   pub from_elem_length : r.number ≡ 0 → length (view r.vector e.0) ≡ k
   from_elem_length = law.from_elem_length vector _ _ _ _ learnt.row
 
@@ -53,53 +54,53 @@ module _ (κs : Lfts 1) (s : Bor (List ℕ)) (k x : ℕ) (r : Answer) (e : AtExi
   pub from_elem_answers : length s.now ≤ 4096 → IfHolds r.number (length s.now) k
   from_elem_answers few = law.from_elem_answers vector _ _ few _ _ learnt.row
 
-module _ (κs : Lfts 1) (v : Vector) (s : Bor (List ℕ)) (r : Answer) (e : AtExit fn.len.ended κs) (learnt : fn.len.Reads.Learnt κs (v, (s, tt)) r e) where
+module _ (κs : Lfts 1) (v : Vector) (s : Bor (List ℕ)) (r : Answer) (e : AtExit promise.len.ended κs) (learnt : fn.len.Reads.Learnt κs (v, (s, tt)) r e) where
   pub len-value : Valid v s → r.value ≡ length (view v s)
   len-value ok = law.len-value vector _ _ ok learnt.row
 
   pub len-answers : Valid v s → r.number ≡ 0
   len-answers ok = law.len-answers vector _ _ ok learnt.row
 
-module _ (κs : Lfts 1) (v : Vector) (s : Bor (List ℕ)) (r : Answer) (e : AtExit fn.is_empty.ended κs) (learnt : fn.is_empty.Reads.Learnt κs (v, (s, tt)) r e) where
+module _ (κs : Lfts 1) (v : Vector) (s : Bor (List ℕ)) (r : Answer) (e : AtExit promise.is_empty.ended κs) (learnt : fn.is_empty.Reads.Learnt κs (v, (s, tt)) r e) where
   pub is_empty_value : Valid v s → Says r.value 0 (0 < length (view v s)) ⊎ Says r.value 1 (length (view v s) ≡ 0)
   is_empty_value ok = law.is_empty_value vector _ _ ok learnt.row
 
   pub is_empty_answers : Valid v s → r.number ≡ 0
   is_empty_answers ok = law.is_empty_answers vector _ _ ok learnt.row
 
-module _ (κs : Lfts 1) (v : Vector) (s : Bor (List ℕ)) (i : ℕ) (r : Answer) (e : AtExit fn.read.ended κs) (learnt : fn.read.Reads.Learnt κs (v, (s, (i, tt))) r e) where
+module _ (κs : Lfts 1) (v : Vector) (s : Bor (List ℕ)) (i : ℕ) (r : Answer) (e : AtExit promise.read.ended κs) (learnt : fn.read.Reads.Learnt κs (v, (s, (i, tt))) r e) where
   pub read_value : r.number ≡ 0 → r.value ≡ get_or (view v s) i 0
   read_value = law.read_value vector _ _ _ learnt.row
 
   pub read_answers : Valid v s → IfInside r.number (length (view v s)) i
   read_answers ok = law.read_answers vector _ _ ok _ learnt.row
 
-module _ (κs : Lfts 1) (v : Vector) (s : Bor (List ℕ)) (k : ℕ) (r : Answer) (e : AtExit fn.reserve.ended κs) (learnt : fn.reserve.Reads.Learnt κs (v, (s, (k, tt))) r e) where
+module _ (κs : Lfts 1) (v : Vector) (s : Bor (List ℕ)) (k : ℕ) (r : Answer) (e : AtExit promise.reserve.ended κs) (learnt : fn.reserve.Reads.Learnt κs (v, (s, (k, tt))) r e) where
   pub reserve_list : view r.vector s ≡ view v s
   reserve_list = law.look_list vector _ _ _ learnt.row
 
   pub reserve_answers : Valid v s → IfRoom r.number (length s.now) (length (view v s)) k
   reserve_answers ok = law.reserve_answers vector _ _ ok _ learnt.row
 
-module _ (κs : Lfts 1) (v : Vector) (s : Bor (List ℕ)) (k : ℕ) (r : Answer) (e : AtExit fn.try_reserve.ended κs) (learnt : fn.try_reserve.Reads.Learnt κs (v, (s, (k, tt))) r e) where
+module _ (κs : Lfts 1) (v : Vector) (s : Bor (List ℕ)) (k : ℕ) (r : Answer) (e : AtExit promise.try_reserve.ended κs) (learnt : fn.try_reserve.Reads.Learnt κs (v, (s, (k, tt))) r e) where
   pub try_reserve_list : view r.vector s ≡ view v s
   try_reserve_list = law.look_list vector _ _ _ learnt.row
 
   pub try_reserve_answers : Valid v s → IfRoom r.number (length s.now) (length (view v s)) k
   try_reserve_answers ok = law.try_reserve_answers vector _ _ ok _ learnt.row
 
-module _ (κs : Lfts 1) (v : Vector) (s : Bor (List ℕ)) (k : ℕ) (r : Answer) (e : AtExit fn.try_reserve_exact.ended κs) (learnt : fn.try_reserve_exact.Reads.Learnt κs (v, (s, (k, tt))) r e) where
+module _ (κs : Lfts 1) (v : Vector) (s : Bor (List ℕ)) (k : ℕ) (r : Answer) (e : AtExit promise.try_reserve_exact.ended κs) (learnt : fn.try_reserve_exact.Reads.Learnt κs (v, (s, (k, tt))) r e) where
   pub try_reserve_exact_list : view r.vector s ≡ view v s
   try_reserve_exact_list = law.look_list vector _ _ _ learnt.row
 
   pub try_reserve_exact_answers : Valid v s → IfRoom r.number (length s.now) (length (view v s)) k
   try_reserve_exact_answers ok = law.try_reserve_exact_answers vector _ _ ok _ learnt.row
 
-module _ (κs : Lfts 1) (v : Vector) (s : Bor (List ℕ)) (a b : ℕ) (r : Answer) (e : AtExit fn.ask_range.ended κs) (learnt : fn.ask_range.Reads.Learnt κs (v, (s, (a, (b, tt)))) r e) where
+module _ (κs : Lfts 1) (v : Vector) (s : Bor (List ℕ)) (a b : ℕ) (r : Answer) (e : AtExit promise.ask_range.ended κs) (learnt : fn.ask_range.Reads.Learnt κs (v, (s, (a, (b, tt)))) r e) where
   pub ask_range_answers : Valid v s → Says r.number 0 ((a ≤ b) × (b ≤ length (view v s))) ⊎ Says r.number 3 (Astray a b (length (view v s)))
   ask_range_answers ok = law.range_answers _ _ ok _ _ learnt.row
 
-module _ (κs : Lfts 1) (v : Vector) (s : Bor (List ℕ)) (i x : ℕ) (r : Answer) (e : AtExit fn.write.ended κs) (learnt : fn.write.Reads.Learnt κs (v, (s, (i, (x, tt)))) r e) where
+module _ (κs : Lfts 1) (v : Vector) (s : Bor (List ℕ)) (i x : ℕ) (r : Answer) (e : AtExit promise.write.ended κs) (learnt : fn.write.Reads.Learnt κs (v, (s, (i, (x, tt)))) r e) where
   pub write_value : r.number ≡ 0 → r.value ≡ get_or (view v s) i 0
   write_value = law.write_value vector _ _ _ _ learnt.row
 
@@ -112,14 +113,14 @@ module _ (κs : Lfts 1) (v : Vector) (s : Bor (List ℕ)) (i x : ℕ) (r : Answe
   pub write_answers : Valid v s → IfInside r.number (length (view v s)) i
   write_answers ok = law.write_answers vector _ _ ok _ _ learnt.row
 
-module _ (κs : Lfts 1) (v : Vector) (s : Bor (List ℕ)) (x : ℕ) (r : Answer) (e : AtExit fn.push.ended κs) (learnt : fn.push.Reads.Learnt κs (v, (s, (x, tt))) r e) where
+module _ (κs : Lfts 1) (v : Vector) (s : Bor (List ℕ)) (x : ℕ) (r : Answer) (e : AtExit promise.push.ended κs) (learnt : fn.push.Reads.Learnt κs (v, (s, (x, tt))) r e) where
   pub push_list : r.number ≡ 0 → view r.vector e.1.0 ≡ view v s ++ (x ∷ [])
   push_list = law.push_list vector _ _ _ learnt.row
 
   pub push_answers : Valid v s → IfFree r.number (length s.now) (length (view v s))
   push_answers ok = law.push_answers vector _ _ ok _ learnt.row
 
-module _ (κs : Lfts 1) (v : Vector) (s : Bor (List ℕ)) (r : Answer) (e : AtExit fn.pop.ended κs) (learnt : fn.pop.Reads.Learnt κs (v, (s, tt)) r e) where
+module _ (κs : Lfts 1) (v : Vector) (s : Bor (List ℕ)) (r : Answer) (e : AtExit promise.pop.ended κs) (learnt : fn.pop.Reads.Learnt κs (v, (s, tt)) r e) where
   pub pop_answers : Valid v s → IfSome r.number (length (view v s))
   pop_answers ok = law.pop_answers vector _ _ ok learnt.row
 
@@ -130,14 +131,14 @@ module _ (κs : Lfts 1) (v : Vector) (s : Bor (List ℕ)) (r : Answer) (e : AtEx
   pub pop_none : Valid v s → length (view v s) ≡ 0 → (r.number ≡ 4) × (view r.vector e.1.0 ≡ view v s)
   pop_none ok = law.pop_none vector _ _ ok learnt.row
 
-module _ (κs : Lfts 1) (v : Vector) (s : Bor (List ℕ)) (i x : ℕ) (r : Answer) (e : AtExit fn.insert.ended κs) (learnt : fn.insert.Reads.Learnt κs (v, (s, (i, (x, tt)))) r e) where
+module _ (κs : Lfts 1) (v : Vector) (s : Bor (List ℕ)) (i x : ℕ) (r : Answer) (e : AtExit promise.insert.ended κs) (learnt : fn.insert.Reads.Learnt κs (v, (s, (i, (x, tt)))) r e) where
   pub insert_list : r.number ≡ 0 → view r.vector e.1.0 ≡ insert_at (view v s) i x
   insert_list = law.insert_list vector _ _ _ _ learnt.row
 
   pub insert_answers : Valid v s → IfInserts r.number (length s.now) (length (view v s)) i
   insert_answers ok = law.insert_answers vector _ _ ok _ _ learnt.row
 
-module _ (κs : Lfts 1) (v : Vector) (s : Bor (List ℕ)) (i : ℕ) (r : Answer) (e : AtExit fn.remove.ended κs) (learnt : fn.remove.Reads.Learnt κs (v, (s, (i, tt))) r e) where
+module _ (κs : Lfts 1) (v : Vector) (s : Bor (List ℕ)) (i : ℕ) (r : Answer) (e : AtExit promise.remove.ended κs) (learnt : fn.remove.Reads.Learnt κs (v, (s, (i, tt))) r e) where
   pub remove_value : r.number ≡ 0 → r.value ≡ get_or (view v s) i 0
   remove_value = law.remove_value vector _ _ _ learnt.row
 
@@ -147,7 +148,7 @@ module _ (κs : Lfts 1) (v : Vector) (s : Bor (List ℕ)) (i : ℕ) (r : Answer)
   pub remove_answers : Valid v s → IfInside r.number (length (view v s)) i
   remove_answers ok = law.remove_answers vector _ _ ok _ learnt.row
 
-module _ (κs : Lfts 1) (v : Vector) (s : Bor (List ℕ)) (i : ℕ) (r : Answer) (e : AtExit fn.swap_remove.ended κs) (learnt : fn.swap_remove.Reads.Learnt κs (v, (s, (i, tt))) r e) where
+module _ (κs : Lfts 1) (v : Vector) (s : Bor (List ℕ)) (i : ℕ) (r : Answer) (e : AtExit promise.swap_remove.ended κs) (learnt : fn.swap_remove.Reads.Learnt κs (v, (s, (i, tt))) r e) where
   pub swap_remove_value : r.number ≡ 0 → r.value ≡ get_or (view v s) i 0
   swap_remove_value = law.swap_remove_value vector _ _ _ learnt.row
 
@@ -157,7 +158,7 @@ module _ (κs : Lfts 1) (v : Vector) (s : Bor (List ℕ)) (i : ℕ) (r : Answer)
   pub swap_remove_answers : Valid v s → IfInside r.number (length (view v s)) i
   swap_remove_answers ok = law.swap_remove_answers vector _ _ ok _ learnt.row
 
-module _ (κs : Lfts 1) (v : Vector) (s : Bor (List ℕ)) (k : ℕ) (r : Answer) (e : AtExit fn.truncate.ended κs) (learnt : fn.truncate.Reads.Learnt κs (v, (s, (k, tt))) r e) where
+module _ (κs : Lfts 1) (v : Vector) (s : Bor (List ℕ)) (k : ℕ) (r : Answer) (e : AtExit promise.truncate.ended κs) (learnt : fn.truncate.Reads.Learnt κs (v, (s, (k, tt))) r e) where
   pub truncate_list : Valid v s → view r.vector e.1.0 ≡ take k (view v s)
   truncate_list ok = law.truncate_list vector _ _ ok _ learnt.row
 
@@ -167,7 +168,7 @@ module _ (κs : Lfts 1) (v : Vector) (s : Bor (List ℕ)) (k : ℕ) (r : Answer)
   pub truncate_answers : Valid v s → r.number ≡ 0
   truncate_answers ok = law.truncate_answers vector _ _ ok _ learnt.row
 
-module _ (κs : Lfts 1) (v : Vector) (s : Bor (List ℕ)) (k x : ℕ) (r : Answer) (e : AtExit fn.resize.ended κs) (learnt : fn.resize.Reads.Learnt κs (v, (s, (k, (x, tt)))) r e) where
+module _ (κs : Lfts 1) (v : Vector) (s : Bor (List ℕ)) (k x : ℕ) (r : Answer) (e : AtExit promise.resize.ended κs) (learnt : fn.resize.Reads.Learnt κs (v, (s, (k, (x, tt)))) r e) where
   pub resize_list : Valid v s → k ≤ length (view v s) → view r.vector e.1.0 ≡ take k (view v s)
   resize_list ok = law.resize_list vector _ _ ok _ _ learnt.row
 
@@ -183,14 +184,14 @@ module _ (κs : Lfts 1) (v : Vector) (s : Bor (List ℕ)) (k x : ℕ) (r : Answe
   pub resize_answers : Valid v s → IfHolds r.number (length s.now) k
   resize_answers ok = law.resize_answers vector _ _ ok _ _ learnt.row
 
-module _ (κs : Lfts 1) (v : Vector) (s : Bor (List ℕ)) (r : Answer) (e : AtExit fn.clear.ended κs) (learnt : fn.clear.Reads.Learnt κs (v, (s, tt)) r e) where
+module _ (κs : Lfts 1) (v : Vector) (s : Bor (List ℕ)) (r : Answer) (e : AtExit promise.clear.ended κs) (learnt : fn.clear.Reads.Learnt κs (v, (s, tt)) r e) where
   pub clear_list : Valid v s → view r.vector e.1.0 ≡ []
   clear_list ok = law.clear_list vector _ _ ok learnt.row
 
   pub clear_answers : Valid v s → r.number ≡ 0
   clear_answers ok = law.clear_answers vector _ _ ok learnt.row
 
-module _ (κs : Lfts 2) (v : Vector) (s more : Bor (List ℕ)) (r : Answer) (e : AtExit fn.extend_from_slice.ended κs) (learnt : fn.extend_from_slice.Reads.Learnt κs (v, (s, (more, tt))) r e) where
+module _ (κs : Lfts 2) (v : Vector) (s more : Bor (List ℕ)) (r : Answer) (e : AtExit promise.extend_from_slice.ended κs) (learnt : fn.extend_from_slice.Reads.Learnt κs (v, (s, (more, tt))) r e) where
   pub extend_from_slice_length : r.number ≡ 0 → length (view r.vector e.1.0) ≡ length (view v s) + length more.now
   extend_from_slice_length = law.extend_length vector _ _ _ learnt.row
 

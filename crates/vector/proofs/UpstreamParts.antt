@@ -16,26 +16,27 @@ use Rattle.vector.specs.declared.Vector.{Vector}
 use Rattle.vector.specs.Seen.{tray}
 use Rattle.vector.proofs.Upstream.{view, Valid}
 use Rattle.vector.proofs.Vector as fn
+use Rattle.vector.specs.contracts.Vector as promise
 
 -- In what follows v is the vector and s its slots, r is the part, and e the arguments as they are at the return.
 module _ (κs : Lfts 1) (v : Vector) (s r : Bor (List ℕ)) where
-  pub as_slice_view : (e : AtExit fn.as_slice.ended κs) → fn.as_slice.Reads.Learnt κs (v, (s, tt)) r e → Valid v s → r.now ≡ view v s
+  pub as_slice_view : (e : AtExit promise.as_slice.ended κs) → fn.as_slice.Reads.Learnt κs (v, (s, tt)) r e → Valid v s → r.now ≡ view v s
   as_slice_view e learnt ok = learnt.holds ∙ part_all (tray v s.now) ok
 
-  pub as_ref_view : (e : AtExit fn.as_ref.ended κs) → fn.as_ref.Reads.Learnt κs (v, (s, tt)) r e → Valid v s → r.now ≡ view v s
+  pub as_ref_view : (e : AtExit promise.as_ref.ended κs) → fn.as_ref.Reads.Learnt κs (v, (s, tt)) r e → Valid v s → r.now ≡ view v s
   as_ref_view e learnt ok = learnt.holds ∙ part_all (tray v s.now) ok
 
-  pub deref_view : (e : AtExit fn.deref.ended κs) → fn.deref.Reads.Learnt κs (v, (s, tt)) r e → Valid v s → r.now ≡ view v s
+  pub deref_view : (e : AtExit promise.deref.ended κs) → fn.deref.Reads.Learnt κs (v, (s, tt)) r e → Valid v s → r.now ≡ view v s
   deref_view e learnt ok = learnt.holds ∙ part_all (tray v s.now) ok
 
-  pub as_mut_slice_view : (e : AtExit fn.as_mut_slice.ended κs) → fn.as_mut_slice.Reads.Learnt κs (v, (s, tt)) r e → Valid v s → r.now ≡ view v s
+  pub as_mut_slice_view : (e : AtExit promise.as_mut_slice.ended κs) → fn.as_mut_slice.Reads.Learnt κs (v, (s, tt)) r e → Valid v s → r.now ≡ view v s
   as_mut_slice_view e learnt ok = learnt.holds ∙ part_all (tray v s.now) ok
 
-  pub deref_mut_view : (e : AtExit fn.deref_mut.ended κs) → fn.deref_mut.Reads.Learnt κs (v, (s, tt)) r e → Valid v s → r.now ≡ view v s
+  pub deref_mut_view : (e : AtExit promise.deref_mut.ended κs) → fn.deref_mut.Reads.Learnt κs (v, (s, tt)) r e → Valid v s → r.now ≡ view v s
   deref_mut_view e learnt ok = learnt.holds ∙ part_all (tray v s.now) ok
 
 -- index by a range a..b: the part of the list that it names, and nothing where it isn't one
-module _ (κs : Lfts 1) (v : Vector) (s r : Bor (List ℕ)) (a b : ℕ) (e : AtExit fn.range.ended κs) (learnt : fn.range.Reads.Learnt κs (v, (s, (a, (b, tt)))) r e) where
+module _ (κs : Lfts 1) (v : Vector) (s r : Bor (List ℕ)) (a b : ℕ) (e : AtExit promise.range.ended κs) (learnt : fn.range.Reads.Learnt κs (v, (s, (a, (b, tt)))) r e) where
   pub range_view : Valid v s → a ≤ b → b ≤ length (view v s) → r.now ≡ take (b - a) (drop a (view v s))
   range_view ok le fits = learnt.holds ∙ part_holds (tray v s.now) a b ok le (omega (arith, many vector (tray v s.now)))
 

@@ -6,18 +6,18 @@ use Rattle.slots.proofs.Shifts.{up_none, up_turn, up_end}
 use Rattle.runs.proofs.up.Statement.{statement}
 use Rattle.runs.proofs.up.Tie as tie
 
-abbrev invariant_loop : tie.invariant_loop
-invariant_loop part₀ i₀ part i = (i ≤ length part₀) × MovedUp itself (i - 1) (length part₀ - 1) part₀ part
+abbrev invariant-loop-i : tie.invariant-loop-i
+invariant-loop-i part₀ i₀ part i = (i ≤ length part₀) × MovedUp itself (i - 1) (length part₀ - 1) part₀ part
 
-abbrev decreases_loop : tie.decreases_loop
-decreases_loop part₀ i₀ part i = i
+abbrev decreases-loop-i : tie.decreases-loop-i
+decreases-loop-i part₀ i₀ part i = i
 
 pub up_spec : {M : Type 1} → statement M
 up_spec =
     tie.close
     (tie.spec
-    invariant_loop
-    decreases_loop
+    invariant-loop-i
+    decreases-loop-i
     (λ c. search (up_none, rules))
     (λ c. search rules)
     (λ c. search rules)

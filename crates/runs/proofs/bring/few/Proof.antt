@@ -8,29 +8,29 @@ use Rattle.slots.proofs.Lays.{lay_none, run_lay_more, run_lay_all}
 use Rattle.runs.proofs.bring.few.Statement.{statement}
 use Rattle.runs.proofs.bring.few.Tie as tie
 
-abbrev invariant_loop : tie.invariant_loop
-invariant_loop slots₀ at part n sum₀ k₀ slots sum k =
+abbrev invariant-loop-k : tie.invariant-loop-k
+invariant-loop-k slots₀ at part n sum₀ k₀ slots sum k =
     (k ≤ length part) × Laid itself at k part slots₀ slots × (sum ≡ total (take k part)) × (sum ≤ 2 ^ 32 * k)
 
-abbrev decreases_loop : tie.decreases_loop
-decreases_loop slots₀ at part n sum₀ k₀ slots sum k = length part - k
+abbrev decreases-loop-k : tie.decreases-loop-k
+decreases-loop-k slots₀ at part n sum₀ k₀ slots sum k = length part - k
 
 pub few_spec : {M : Type 1} → statement M
 few_spec =
     tie.close
     (tie.spec
-    invariant_loop
-    decreases_loop
+    invariant-loop-k
+    decreases-loop-k
     (λ c. (search rules, search lay_none, sym total_none, search rules))
     (λ c. search rules)
     (λ c. search rules)
     (λ c. search rules)
     (λ c. search rules)
     (λ c. search rules)
-    (λ c. omega (arith, c.shared_slice_known.given c.before.before.loop.k))
-    (λ c. omega (arith, c.shared_slice_known.given c.before.before.loop.k))
+    (λ c. omega (arith, c.shared_slice_known-1.given c.before.before.loop-k.k))
+    (λ c. omega (arith, c.shared_slice_known-1.given c.before.before.loop-k.k))
     (λ c. search rules)
     (λ c. search rules)
-    (λ c. (search rules, search (run_lay_more, rules), search (sum_more, rules), omega (arith, c.shared_slice_known.given c.before.before.loop.k)))
+    (λ c. (search rules, search (run_lay_more, rules), search (sum_more, rules), omega (arith, c.shared_slice_known-1.given c.before.before.loop-k.k)))
     (λ c. search rules)
     (λ c. (search run_lay_all, search (sum_all, rules), search rules)))

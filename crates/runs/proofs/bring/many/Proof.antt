@@ -9,19 +9,19 @@ use Rattle.slots.proofs.Lays.{lay_none, run_lay_more, run_lay_all}
 use Rattle.runs.proofs.bring.many.Statement.{statement}
 use Rattle.runs.proofs.bring.many.Tie as tie
 
-abbrev invariant_loop : tie.invariant_loop
-invariant_loop slots₀ at part n sum₀ high₀ k₀ slots sum high k =
+abbrev invariant-loop-k : tie.invariant-loop-k
+invariant-loop-k slots₀ at part n sum₀ high₀ k₀ slots sum high k =
     (k ≤ length part) × Laid itself at k part slots₀ slots × (sum ≡ total (take k part) % 2 ^ 32) × (high ≡ highs (take k part)) × (high ≤ 65536 * k)
 
-abbrev decreases_loop : tie.decreases_loop
-decreases_loop slots₀ at part n sum₀ high₀ k₀ slots sum high k = length part - k
+abbrev decreases-loop-k : tie.decreases-loop-k
+decreases-loop-k slots₀ at part n sum₀ high₀ k₀ slots sum high k = length part - k
 
 pub many_spec : {M : Type 1} → statement M
 many_spec =
     tie.close
     (tie.spec
-    invariant_loop
-    decreases_loop
+    invariant-loop-k
+    decreases-loop-k
     (λ c. (search rules, search lay_none, omega (arith, total_none), sym no_highs, search rules))
     (λ c. search rules)
     (λ c. search rules)
@@ -29,10 +29,10 @@ many_spec =
     (λ c. search rules)
     (λ c. search rules)
     (λ c κs. search rules)
-    (λ c. omega (arith, c.before.shared_slice_known2.given c.before.before.before.loop.k))
+    (λ c. omega (arith, c.before.shared_slice_known-in-loop-k-1.given c.before.before.before.loop-k.k))
     (λ c. search rules)
     (λ c. search rules)
-    (λ c. (search rules, search (run_lay_more, rules), c.wrapping_add_u32.ensures ∙ search (wrapped_more, rules), search (highs_more, rules), omega (arith, c.before.shared_slice_known2.given c.before.before.before.loop.k)))
+    (λ c. (search rules, search (run_lay_more, rules), c.wrapping_add_u32-sum.ensures ∙ search (wrapped_more, rules), search (highs_more, rules), omega (arith, c.before.shared_slice_known-in-loop-k-1.given c.before.before.before.loop-k.k)))
     (λ c. search rules)
     (λ c κs. search rules)
     (λ c. search rules)

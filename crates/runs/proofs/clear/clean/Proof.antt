@@ -8,31 +8,31 @@ use Rattle.slots.proofs.Halves.{highs, no_highs, no_wrapped, filled_highs_more, 
 use Rattle.runs.proofs.clear.clean.Statement.{statement}
 use Rattle.runs.proofs.clear.clean.Tie as tie
 
-abbrev invariant_loop : tie.invariant_loop
-invariant_loop part₀ n sum₀ high₀ i₀ part sum high i =
+abbrev invariant-loop-i : tie.invariant-loop-i
+invariant-loop-i part₀ n sum₀ high₀ i₀ part sum high i =
     (i ≤ length part₀) × (sum ≡ total (take i part₀) % 2 ^ 32) × (high ≡ highs (take i part₀)) × (high ≤ 65535 * i) × Filled itself 0 i 0 part₀ part
 
-abbrev decreases_loop : tie.decreases_loop
-decreases_loop part₀ n sum₀ high₀ i₀ part sum high i = length part₀ - i
+abbrev decreases-loop-i : tie.decreases-loop-i
+decreases-loop-i part₀ n sum₀ high₀ i₀ part sum high i = length part₀ - i
 
 pub clean_spec : {M : Type 1} → statement M
 clean_spec =
     tie.close
     (tie.spec
-    invariant_loop
-    decreases_loop
+    invariant-loop-i
+    decreases-loop-i
     (λ c. (search rules, no_wrapped, sym no_highs, search rules, search fill_none))
     (λ c. search rules)
     (λ c. search rules)
     (λ c κs. search rules)
     (λ c. search rules)
     (λ c. search rules)
-    (λ c. omega (arith, c.slice_known3.given c.before.before.before.before.loop.i))
+    (λ c. omega (arith, c.slice_known-in-loop-i-2-1.given c.before.before.before.before.loop-i.i))
     (λ c. search rules)
     (λ c. search rules)
     (λ c. search rules)
     (λ c. search rules)
-    (λ c. (search rules, search filled_wrapped_more, search filled_highs_more, omega (arith, c.slice_known3.given c.before.before.before.before.loop.i), search (fill_turn, rules)))
+    (λ c. (search rules, search filled_wrapped_more, search filled_highs_more, omega (arith, c.slice_known-in-loop-i-2-1.given c.before.before.before.before.loop-i.i), search (fill_turn, rules)))
     (λ c. search rules)
     (λ c κs. search rules)
     (λ c. search rules)

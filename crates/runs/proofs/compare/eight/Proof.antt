@@ -5,18 +5,18 @@ use Rattle.slots.proofs.Compares.{block_none, block_more, block_all}
 use Rattle.runs.proofs.compare.eight.Statement.{statement}
 use Rattle.runs.proofs.compare.eight.Tie as tie
 
-abbrev invariant_loop : tie.invariant_loop
-invariant_loop ours theirs at alike₀ j₀ alike j = (j ≤ 8) × Tells alike (take j (drop at ours)) (take j (drop at theirs))
+abbrev invariant-loop-j : tie.invariant-loop-j
+invariant-loop-j ours theirs at alike₀ j₀ alike j = (j ≤ 8) × Tells alike (take j (drop at ours)) (take j (drop at theirs))
 
-abbrev decreases_loop : tie.decreases_loop
-decreases_loop ours theirs at alike₀ j₀ alike j = 8 - j
+abbrev decreases-loop-j : tie.decreases-loop-j
+decreases-loop-j ours theirs at alike₀ j₀ alike j = 8 - j
 
 pub eight_spec : {M : Type 1} → statement M
 eight_spec =
     tie.close
     (tie.spec
-    invariant_loop
-    decreases_loop
+    invariant-loop-j
+    decreases-loop-j
     (λ c. search (block_none, rules))
     (λ c. search rules)
     (λ c. search rules)

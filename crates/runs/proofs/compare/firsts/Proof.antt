@@ -5,18 +5,18 @@ use Rattle.slots.proofs.Compares.{firsts_short, firsts_more, firsts_differ, firs
 use Rattle.runs.proofs.compare.firsts.Statement.{statement}
 use Rattle.runs.proofs.compare.firsts.Tie as tie
 
-abbrev invariant_loop : tie.invariant_loop
-invariant_loop ours theirs count last k₀ k = (k ≤ last + 8) × (take k ours ≡ take k theirs)
+abbrev invariant-loop-k : tie.invariant-loop-k
+invariant-loop-k ours theirs count last k₀ k = (k ≤ last + 8) × (take k ours ≡ take k theirs)
 
-abbrev decreases_loop : tie.decreases_loop
-decreases_loop ours theirs count last k₀ k = last - k
+abbrev decreases-loop-k : tie.decreases-loop-k
+decreases-loop-k ours theirs count last k₀ k = last - k
 
 pub firsts_spec : {M : Type 1} → statement M
 firsts_spec =
     tie.close
     (tie.spec
-    invariant_loop
-    decreases_loop
+    invariant-loop-k
+    decreases-loop-k
     (λ c κs. search rules)
     (λ c. search firsts_short)
     (λ c. search rules)

@@ -6,18 +6,18 @@ use Rattle.slots.proofs.Lays.{lay_none, run_lay_more, run_lay_all}
 use Rattle.runs.proofs.copy.put.Statement.{statement}
 use Rattle.runs.proofs.copy.put.Tie as tie
 
-abbrev invariant_loop : tie.invariant_loop
-invariant_loop slots₀ at part count k₀ slots k = (k ≤ count) × Laid itself at k part slots₀ slots
+abbrev invariant-loop-k : tie.invariant-loop-k
+invariant-loop-k slots₀ at part count k₀ slots k = (k ≤ count) × Laid itself at k part slots₀ slots
 
-abbrev decreases_loop : tie.decreases_loop
-decreases_loop slots₀ at part count k₀ slots k = count - k
+abbrev decreases-loop-k : tie.decreases-loop-k
+decreases-loop-k slots₀ at part count k₀ slots k = count - k
 
 pub put_spec : {M : Type 1} → statement M
 put_spec =
     tie.close
     (tie.spec
-    invariant_loop
-    decreases_loop
+    invariant-loop-k
+    decreases-loop-k
     (λ c. search (lay_none, rules))
     (λ c. search rules)
     (λ c. search rules)

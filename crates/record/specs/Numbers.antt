@@ -9,8 +9,8 @@ use Rattle.record.specs.Places.{firsts, lasts}
 use Rattle.record.specs.Where.{Bad, Unclosed, BadAt, OpenedAt}
 
 pub data Applies (text : List ℕ) (t t2 : Tray) : ℕ → Type 0 where
-  first_invalid_law : invalid vector t ≡ true → Applies text t t2 1
-  second_invalid_law : invalid vector t2 ≡ true → Applies text t t2 2
+  invalid_first : invalid vector t ≡ true → Applies text t t2 1
+  invalid_second : invalid vector t2 ≡ true → Applies text t t2 2
   first_taken : (t.len ≡ 0 → ⊥) → Applies text t t2 5
   second_taken : (t2.len ≡ 0 → ⊥) → Applies text t t2 5
   too_long : 65535 < length text → Applies text t t2 11

@@ -19,7 +19,7 @@ use Rattle.ring.specs.Seen as rings
 use Rattle.vector.specs.Seen as vectors
 use Rattle.stored.specs.Form.{form, size}
 use Rattle.stored.specs.Written.{Written, refusals_text, writes}
-use Rattle.stored.specs.Numbers.{AppliesText, first_invalid_law, too_short}
+use Rattle.stored.specs.Numbers.{AppliesText, invalid_first, too_short}
 use Rattle.stored.proofs.Lines.{length_form}
 use Rattle.stored.proofs.Writes.{refusing, telling}
 use Rattle.stored.specs.contracts.ring_text as ring_text·fn
@@ -34,7 +34,7 @@ module _ (k : Kind) (t : Tray) (text : List ℕ) where
   text_settled = settled _ _ _ (λ m. refl) refl (refusals_text k t text)
 
   text_tested : {j : ℕ} → AppliesText k t text j → Tests j (refusals_text k t text)
-  text_tested (first_invalid_law e) = inl (e, omega arith)
+  text_tested (invalid_first e) = inl (e, omega arith)
   text_tested (too_short h) = inr (inl (lt-ltb _ _ h, omega arith))
 
   -- w is what is seen of the writer, as its promise says
@@ -42,7 +42,7 @@ module _ (k : Kind) (t : Tray) (text : List ℕ) where
     pub text_numbers : Answers (AppliesText k t text) w.outcome.number
     text_numbers =
         rw (promised, text_settled.first)
-        (answers (AppliesText k t text) (refusals_text k t text) refl (λ e. first_invalid_law e, (λ e. too_short (ltb-true _ _ e), tt)) (λ j a. text_tested a))
+        (answers (AppliesText k t text) (refusals_text k t text) refl (λ e. invalid_first e, (λ e. too_short (ltb-true _ _ e), tt)) (λ j a. text_tested a))
 
     pub text_refused : (m : ℕ) → w.outcome.number ≡ suc m → w ≡ refusing t (suc m) text
     text_refused = rw promised text_settled.refused

@@ -5,5 +5,5 @@ use Rattle.table.specs.Tray.{Tray, cap, invalid}
 
 -- the container is invalid; the text buffer is too short for the 17 + 9c bytes that a text takes
 pub data AppliesText (k : Kind) (t : Tray) (text : List ℕ) : ℕ → Type 0 where
-  first_invalid_law : invalid k t ≡ true → AppliesText k t text 1
+  invalid_first : invalid k t ≡ true → AppliesText k t text 1
   too_short : length text < 17 + 9 * cap t → AppliesText k t text 6

@@ -17,7 +17,7 @@ NoRoom c n more = c - n < more
 
 -- c is the capacity, n the length
 pub data Applies (k : Kind) (t : Tray) : ℕ → Call → Type 0 where
-  first_invalid_law : {call : Call} → invalid k t ≡ true → Applies k t 1 call
+  invalid_first : {call : Call} → invalid k t ≡ true → Applies k t 1 call
   beyond_read : {i : ℕ} → t.len ≤ i → Applies k t 3 (look (read i))
   beyond_write : {i x : ℕ} → t.len ≤ i → Applies k t 3 (write i x)
   beyond_remove : {i : ℕ} → t.len ≤ i → Applies k t 3 (remove i)
@@ -45,8 +45,8 @@ pub data Applies (k : Kind) (t : Tray) : ℕ → Call → Type 0 where
 
 -- of a call on two, of which T is the second
 pub data Applies2 (k k2 : Kind) (t t2 : Tray) : ℕ → Call2 → Type 0 where
-  first_invalid_law : {call : Call2} → invalid k t ≡ true → Applies2 k k2 t t2 1 call
-  second_invalid_law : {call : Call2} → invalid k2 t2 ≡ true → Applies2 k k2 t t2 2 call
+  invalid_first : {call : Call2} → invalid k t ≡ true → Applies2 k k2 t t2 1 call
+  invalid_second : {call : Call2} → invalid k2 t2 ≡ true → Applies2 k k2 t t2 2 call
   beyond_split : {at : ℕ} → t.len < at → Applies2 k k2 t t2 3 (split_off at)
   astray_from : {u : Cursor} → Astray u.front u.back t.len → Applies2 k k2 t t2 3 (from_iter u)
   taken_split : {at : ℕ} → 0 < t2.len → Applies2 k k2 t t2 5 (split_off at)

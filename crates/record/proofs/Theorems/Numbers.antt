@@ -25,7 +25,7 @@ use Rattle.record.specs.Scan.{Ending, done, bad, unclosed, scanned}
 use Rattle.record.specs.Places.{firsts, lasts}
 use Rattle.record.specs.Steps.{number_of, place_of}
 use Rattle.record.specs.Recorded.{longest, told, judges, first_of, early_tests, late_tests, places, records}
-use Rattle.record.specs.Numbers.{Applies, first_invalid_law, second_invalid_law, first_taken, second_taken, too_long, not_allowed, never_closed, few_starts, few_ends, First, order, Read, Judgement, long, fits, wrong, opened}
+use Rattle.record.specs.Numbers.{Applies, invalid_first, invalid_second, first_taken, second_taken, too_long, not_allowed, never_closed, few_starts, few_ends, First, order, Read, Judgement, long, fits, wrong, opened}
 use Rattle.record.proofs.Laws.Order.{by_tests}
 use Rattle.record.proofs.Laws.Saying.{not_held, length_firsts, length_lasts}
 use Rattle.record.proofs.Theorems.Complete.{complete}
@@ -58,11 +58,11 @@ module _ (text : List ℕ) (t t2 : Tray) where
 
   no_first : invalid vector t ≡ false → P 1 → ⊥
   unfolding P
-  no_first e (first_invalid_law h) = let z : ◌≡◌ {A = ℕ} 0 1 = cc in omega arith
+  no_first e (invalid_first h) = let z : ◌≡◌ {A = ℕ} 0 1 = cc in omega arith
 
   no_second : invalid vector t2 ≡ false → P 2 → ⊥
   unfolding P
-  no_second e (second_invalid_law h) = let z : ◌≡◌ {A = ℕ} 0 1 = cc in omega arith
+  no_second e (invalid_second h) = let z : ◌≡◌ {A = ℕ} 0 1 = cc in omega arith
 
   no_taken : holding t.len ≡ false → holding t2.len ≡ false → P 5 → ⊥
   unfolding P
@@ -129,8 +129,8 @@ module _ (text : List ℕ) (t t2 : Tray) where
   numbered : First P order (first_of (λ m. m) (early_tests (cap t) t.len (cap t2) t2.len (length text) ++ late_tests text (cap t) (cap t2)) 0)
   unfolding P
   numbered =
-      settle P (2 ∷ 5 ∷ 11 ∷ 9 ∷ 10 ∷ 6 ∷ []) 1 _ (not (valid vector (cap t) 0 t.len)) (λ e. first_invalid_law (ap not (sym is_valid) ∙ e)) (λ e. no_first (ap not (sym is_valid) ∙ e))
-      (settle P (5 ∷ 11 ∷ 9 ∷ 10 ∷ 6 ∷ []) 2 _ (not (valid vector (cap t2) 0 t2.len)) (λ e. second_invalid_law (ap not (sym is_valid2) ∙ e)) (λ e. no_second (ap not (sym is_valid2) ∙ e))
+      settle P (2 ∷ 5 ∷ 11 ∷ 9 ∷ 10 ∷ 6 ∷ []) 1 _ (not (valid vector (cap t) 0 t.len)) (λ e. invalid_first (ap not (sym is_valid) ∙ e)) (λ e. no_first (ap not (sym is_valid) ∙ e))
+      (settle P (5 ∷ 11 ∷ 9 ∷ 10 ∷ 6 ∷ []) 2 _ (not (valid vector (cap t2) 0 t2.len)) (λ e. invalid_second (ap not (sym is_valid2) ∙ e)) (λ e. no_second (ap not (sym is_valid2) ∙ e))
       (settle_two P (11 ∷ 9 ∷ 10 ∷ 6 ∷ []) 5 _ (holding t.len) (holding t2.len) (λ e. first_taken (held t.len e)) (λ e. second_taken (held t2.len e)) no_taken
       (settle P (9 ∷ 10 ∷ 6 ∷ []) 11 _ (ltb longest (length text)) (λ e. too_long (ltb-true longest (length text) e)) no_length
       (late (scanned text).ending refl))))

@@ -11,7 +11,7 @@ use lib.Dec.{ltb, leb, eqb}
 use lib.ListN.{length}
 use Rattle.slots.specs.Layout.{Kind}
 use Rattle.slots.proofs.Words.{below?}
-use Rattle.table.specs.Tray.{Tray, within}
+use Rattle.table.specs.Tray.{Tray, within, cap, list}
 use Rattle.table.specs.Calls.{Look, len, is_empty, read, reserve, try_reserve, try_reserve_exact, range, iter, into_iter, step_front, step_back, peek_front, peek_back}
 use Rattle.table.specs.Calls.{Call, push, push_front, pop, pop_front, insert, remove, swap_remove, write, truncate, resize, clear, extend, look}
 use Rattle.table.specs.Calls.{Call2, append, split_off, clone, from_iter, same, Making, new, with_capacity, from_elem}
@@ -151,7 +151,7 @@ row_sound k t (look q) = look_sound k t q
 
 -- and each condition of the paper is tested.
 row_tested : {k : Kind} {t : Tray} {j : ℕ} {call : Call} → Applies k t j call → Tests j (refusals_of k call t)
-row_tested (Applies.first_invalid_law e) = inl (e, omega arith)
+row_tested (Applies.invalid_first e) = inl (e, omega arith)
 row_tested (beyond_read h) = inr (inl (le-leb _ _ h, omega arith))
 row_tested (beyond_write h) = inr (inl (le-leb _ _ h, omega arith))
 row_tested (beyond_remove h) = inr (inl (le-leb _ _ h, omega arith))
@@ -180,7 +180,7 @@ row_tested (full_resize h) = inr (inl (lt-ltb _ _ h, omega arith))
 pub call_numbers : (k : Kind) (call : Call) (t : Tray) (o : Outcome) → o ≡ does k call t → Answers (λ j. Applies k t j call) o.number
 call_numbers k call t o promised =
     rw (promised, (call_settled k call t).first)
-    (answers (λ j. Applies k t j call) (refusals_of k call t) (row_rising _ _ _ _ call) (λ e. Applies.first_invalid_law e, row_sound k t call) (λ j a. row_tested a))
+    (answers (λ j. Applies k t j call) (refusals_of k call t) (row_rising _ _ _ _ call) (λ e. Applies.invalid_first e, row_sound k t call) (λ j a. row_tested a))
 
 -- Calls on two. Room is tested of an empty T, whose capacity is its room.
 no_room_of : (c n more : ℕ) → ltb c more ≡ true → NoRoom c n more
@@ -201,8 +201,8 @@ row2_sound k k2 t t2 (from_iter u) =
 row2_sound k k2 t t2 same = tt
 
 row2_tested : {k k2 : Kind} {t t2 : Tray} {j : ℕ} {call : Call2} → Applies2 k k2 t t2 j call → Tests j (refusals_of2 k k2 call t t2)
-row2_tested (Applies2.first_invalid_law e) = inl (e, omega arith)
-row2_tested (Applies2.second_invalid_law e) = inr (inl (e, omega arith))
+row2_tested (Applies2.invalid_first e) = inl (e, omega arith)
+row2_tested (Applies2.invalid_second e) = inr (inl (e, omega arith))
 row2_tested (beyond_split h) = inr (inr (inl (lt-ltb _ _ h, omega arith)))
 row2_tested (astray_from h) = inr (inr (inl (of_astray _ _ _ h, omega arith)))
 row2_tested (taken_split h) = inr (inr (inr (inl (of_holding _ h, omega arith))))
@@ -216,8 +216,8 @@ row2_tested (full_from h) = inr (inr (inr (of_no_room _ _ _ h)))
 pub two_numbers : (k k2 : Kind) (call : Call2) (t t2 : Tray) (o : Outcome2) → o ≡ does2 k k2 call t t2 → Answers (λ j. Applies2 k k2 t t2 j call) o.number
 two_numbers k k2 call t t2 o promised =
     rw (promised, (two_settled k k2 call t t2).first)
-    (answers (λ j. Applies2 k k2 t t2 j call) (refusals_of2 k k2 call t t2) (row2_rising _ _ _ _ _ _ _ _ call)
-    (λ e. Applies2.first_invalid_law e, (λ e. Applies2.second_invalid_law e, row2_sound k k2 t t2 call)) (λ j a. row2_tested a))
+    (answers (λ j. Applies2 k k2 t t2 j call) (refusals_of2 k k2 call t t2) (row2_rising (cap t) t.head t.len (list k t) (cap t2) t2.head t2.len (list k2 t2) call)
+    (λ e. Applies2.invalid_first e, (λ e. Applies2.invalid_second e, row2_sound k k2 t t2 call)) (λ j a. row2_tested a))
 
 -- Makings.
 made_sound : (slots : List ℕ) (m : Making) → Sound (λ j. AppliesMade slots j m) (makes (length slots) m).refusals

@@ -12,13 +12,13 @@ use Rattle.table.specs.Calls.{append, split_off, clone, from_iter, same, has2, n
 
 -- the calls of one kind only
 pub data Only : Kind → Call → Type 0 where
-  push_front_law : {x : ℕ} → Only ring (push_front x)
-  pop_front_law : Only ring pop_front
-  swap_remove : {i : ℕ} → Only vector (swap_remove i)
+  push_front_only : {x : ℕ} → Only ring (push_front x)
+  pop_front_only : Only ring pop_front
+  swap_remove_only : {i : ℕ} → Only vector (swap_remove i)
   extend_from_slice : {s : List ℕ} → Only vector (extend s)
-  is_empty_law : Only vector (look is_empty)
-  try_reserve_law : {m : ℕ} → Only vector (look (try_reserve m))
-  try_reserve_exact_law : {m : ℕ} → Only vector (look (try_reserve_exact m))
+  is_empty_only : Only vector (look is_empty)
+  try_reserve_only : {m : ℕ} → Only vector (look (try_reserve m))
+  try_reserve_exact_only : {m : ℕ} → Only vector (look (try_reserve_exact m))
   range_asked : {a b : ℕ} → Only vector (look (range a b))
 
 abbrev pub other : Kind → Kind
@@ -27,35 +27,35 @@ other vector = ring
 
 -- the other kind lacks them
 pub lacks : {k : Kind} {call : Call} → Only k call → (has call k ≡ true) × (has call (other k) ≡ false)
-lacks push_front_law = (refl, refl)
-lacks pop_front_law = (refl, refl)
-lacks swap_remove = (refl, refl)
+lacks push_front_only = (refl, refl)
+lacks pop_front_only = (refl, refl)
+lacks swap_remove_only = (refl, refl)
 lacks extend_from_slice = (refl, refl)
-lacks is_empty_law = (refl, refl)
-lacks try_reserve_law = (refl, refl)
-lacks try_reserve_exact_law = (refl, refl)
+lacks is_empty_only = (refl, refl)
+lacks try_reserve_only = (refl, refl)
+lacks try_reserve_exact_only = (refl, refl)
 lacks range_asked = (refl, refl)
 
 -- and every other call both have
 pub offers : (call : Call) → ((k : Kind) → has call k ≡ true) ⊎ ((k : Kind) × Only k call)
 offers (push x) = inl (λ k. refl)
-offers (push_front x) = inr (ring, push_front_law)
+offers (push_front x) = inr (ring, push_front_only)
 offers pop = inl (λ k. refl)
-offers pop_front = inr (ring, pop_front_law)
+offers pop_front = inr (ring, pop_front_only)
 offers (insert i x) = inl (λ k. refl)
 offers (remove i) = inl (λ k. refl)
-offers (swap_remove i) = inr (vector, swap_remove)
+offers (swap_remove i) = inr (vector, swap_remove_only)
 offers (write i x) = inl (λ k. refl)
 offers (truncate m) = inl (λ k. refl)
 offers (resize m x) = inl (λ k. refl)
 offers clear = inl (λ k. refl)
 offers (extend s) = inr (vector, extend_from_slice)
 offers (look len) = inl (λ k. refl)
-offers (look is_empty) = inr (vector, is_empty_law)
+offers (look is_empty) = inr (vector, is_empty_only)
 offers (look (read i)) = inl (λ k. refl)
 offers (look (reserve m)) = inl (λ k. refl)
-offers (look (try_reserve m)) = inr (vector, try_reserve_law)
-offers (look (try_reserve_exact m)) = inr (vector, try_reserve_exact_law)
+offers (look (try_reserve m)) = inr (vector, try_reserve_only)
+offers (look (try_reserve_exact m)) = inr (vector, try_reserve_exact_only)
 offers (look (range a b)) = inr (vector, range_asked)
 offers (look iter) = inl (λ k. refl)
 offers (look into_iter) = inl (λ k. refl)

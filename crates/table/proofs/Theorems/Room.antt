@@ -99,14 +99,14 @@ event_room w i c p o s our shifts =
     omega (arith, shifting_room p shifts (at w i).tray, ap (λ (o : Outcome). o.moves) is, s.slots)
 
 -- On a ring of c slots any k such calls, among any events of demand 3, move at most k times half of c - 1, rounded down, in sum.
-pub room : (w : World) (es : List Event) (i c k m : ℕ) → Stands w i ring c → AllOurs w es → AllSizing es → Picked i es k m → m ≤ k * ((c - 1) / 2)
-room w es i c k m s ours sized no_more = omega arith
-room w es i c k m s ours sized (such {p} {o} {es = es'} {k = k'} {m = m'} shifts picked) =
-    let rest = room (step w (called i p o)) es' i c k' m' (stands_step w (called i p o) i ring c s ours.0 sized.0) ours.1 sized.1 picked in
+pub room : (i : ℕ) (w : World) (es : List Event) (c k m : ℕ) → Stands w i ring c → AllOurs w es → AllSizing es → Picked i es k m → m ≤ k * ((c - 1) / 2)
+room i w es c k m s ours sized no_more = omega arith
+room i w es c k m s ours sized (such {p} {o} {es = es'} {k = k'} {m = m'} shifts picked) =
+    let rest = room i (step w (called i p o)) es' c k' m' (stands_step w (called i p o) i ring c s ours.0 sized.0) ours.1 sized.1 picked in
     omega (arith, rest, event_room w i c p o s ours.0 shifts)
-room w es i c k m s ours sized (other {e} {es = es'} picked) = room (step w e) es' i c k m (stands_step w e i ring c s ours.0 sized.0) ours.1 sized.1 picked
+room i w es c k m s ours sized (other {e} {es = es'} picked) = room i (step w e) es' c k m (stands_step w e i ring c s ours.0 sized.0) ours.1 sized.1 picked
 
 -- From its making on.
 pub room_made : (w : World) (a : Arrival) (slots : List ℕ) (o : Outcome) (es : List Event) (k m : ℕ) → AllOurs w (arrived ring a slots o ∷ es) → AllSizing (arrived ring a slots o ∷ es)
     → Picked (length w) es k m → m ≤ k * ((length slots - 1) / 2)
-room_made w a slots o es k m ours sized = room (step w (arrived ring a slots o)) es (length w) (length slots) k m (made_stands w ring a slots o ours.0 sized.0) ours.1 sized.1
+room_made w a slots o es k m ours sized = room (length w) (step w (arrived ring a slots o)) es (length slots) k m (made_stands w ring a slots o ours.0 sized.0) ours.1 sized.1

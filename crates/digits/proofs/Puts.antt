@@ -66,11 +66,11 @@ put_within m text a at n x long e h =
     (is, omega (arith, ap length is, length_put text at (hex n x)))
 
 -- what is put right after a run of n bytes, or after n digits
-pub put-after : (text s s2 : List ℕ) (at n k : ℕ) → length s ≡ n → at + n ≡ k → put (put text at s) k s2 ≡ put text at (s ++ s2)
-put-after text s s2 at n k en ek = ap (λ k. put (put text at s) k s2) (sym (ap (λ m. at + m) en ∙ ek)) ∙ put_join text at s s2
+pub put_after : (text s s2 : List ℕ) (at n k : ℕ) → length s ≡ n → at + n ≡ k → put (put text at s) k s2 ≡ put text at (s ++ s2)
+put_after text s s2 at n k en ek = ap (λ k. put (put text at s) k s2) (sym (ap (λ m. at + m) en ∙ ek)) ∙ put_join text at s s2
 
 pub after_hex : (text : List ℕ) (at n x k : ℕ) (s : List ℕ) → at + n ≡ k → put (put text at (hex n x)) k s ≡ put text at (hex n x ++ s)
-after_hex text at n x k s e = put-after text (hex n x) s at n k (length_hex n x) e
+after_hex text at n x k s e = put_after text (hex n x) s at n k (length_hex n x) e
 
 -- a number's digits, and the byte that ends them
 pub put_ended : (text mid : List ℕ) (at n x end : ℕ) → mid ≡ put text at (hex n x) → set mid (at + n) end ≡ put text at (hex n x ++ (end ∷ []))

@@ -7,6 +7,7 @@ use native.Mathlib.Omega.{arith}
 use lib.ListN.{length}
 use contract.Lifetimes.{Lfts}
 use denote.Ref.{Bor}
+use denote.MutBor.{MutBor}
 use denote.Triple.Clauses.{AtExit}
 use Rattle.slots.specs.Layout.{ring}
 use Rattle.table.specs.Tray.{nowhere}
@@ -55,7 +56,7 @@ module _ (a : ℕ) (call : Call) (v : Ring) (s z : List ℕ) (r : Answer) (m : M
   within_enough plain e = omega (arith, plain_below_12 ring call (tray v s), ap (λ (o : Outcome). o.number) (m.row ∙ plain))
 
 -- INSERT. In what follows e are the arguments as they are at the return, so that `e.1.0` are the slots then.
-module _ (κs : Lfts 1) (v : Ring) (s : Bor (List ℕ)) (i x a : ℕ) (r : Answer) (e : AtExit promise.insert_within.ended κs)
+module _ (κs : Lfts 1) (v : Ring) (s : MutBor (List ℕ)) (i x a : ℕ) (r : Answer) (e : AtExit promise.insert_within.ended κs)
     (learnt : fn.insert_within.Reads.Learnt κs (v, (s, (i, (x, (a, tt))))) r e) where
   pub insert_within_12 : r.number ≡ 12 → MovesMore a ring (insert i x) (tray v s.now)
   insert_within_12 = within_12 a _ v s.now _ r learnt
@@ -77,7 +78,7 @@ module _ (κs : Lfts 1) (v : Ring) (s : Bor (List ℕ)) (i x a : ℕ) (r : Answe
   insert_within_enough enough = within_enough a _ v s.now _ r learnt (insert_enough a (tray v s.now) i enough x)
 
 -- REMOVE, in the same words.
-module _ (κs : Lfts 1) (v : Ring) (s : Bor (List ℕ)) (i a : ℕ) (r : Answer) (e : AtExit promise.remove_within.ended κs)
+module _ (κs : Lfts 1) (v : Ring) (s : MutBor (List ℕ)) (i a : ℕ) (r : Answer) (e : AtExit promise.remove_within.ended κs)
     (learnt : fn.remove_within.Reads.Learnt κs (v, (s, (i, (a, tt)))) r e) where
   pub remove_within_12 : r.number ≡ 12 → MovesMore a ring (remove i) (tray v s.now)
   remove_within_12 = within_12 a _ v s.now _ r learnt

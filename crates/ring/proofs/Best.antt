@@ -7,6 +7,7 @@ use mathlib.Core.List.{List}
 use lib.ListN.{length}
 use contract.Lifetimes.{Lfts}
 use denote.Ref.{Bor}
+use denote.MutBor.{MutBor}
 use denote.Triple.Clauses.{AtExit}
 use Rattle.slots.specs.Layout.{ring, place}
 use Rattle.slots.specs.Moves.{moved, inserted, removed}
@@ -25,7 +26,7 @@ pub call_least : (call : Call) (v : Ring) (s z : List ℕ) (a : Answer) → Meet
 call_least call v s z a meets of done = best call (tray v s) (seen a z) meets.row of done
 
 -- In what follows v is the ring and s its slots, r is the result, and e the arguments as they are at the return, so that `e.1.0` are the slots then.
-module _ (κs : Lfts 1) (v : Ring) (s : Bor (List ℕ)) (i x : ℕ) (r : Answer) (e : AtExit promise.insert.ended κs)
+module _ (κs : Lfts 1) (v : Ring) (s : MutBor (List ℕ)) (i x : ℕ) (r : Answer) (e : AtExit promise.insert.ended κs)
     (learnt : fn.insert.Reads.Learnt κs (v, (s, (i, (x, tt)))) r e) (done : r.number ≡ 0) where
   pub insert_least : Least (insert i x) (tray v s.now) (seen r e.1.0.now)
   insert_least = call_least _ _ _ _ _ learnt refl done
@@ -34,7 +35,7 @@ module _ (κs : Lfts 1) (v : Ring) (s : Bor (List ℕ)) (i x : ℕ) (r : Answer)
       → r.moves ≤ moved (place ring (length s.now) v.head) lay (inserted i) v.len
   insert_laid = best_laid _ _ _ learnt.row refl done
 
-module _ (κs : Lfts 1) (v : Ring) (s : Bor (List ℕ)) (i : ℕ) (r : Answer) (e : AtExit promise.remove.ended κs)
+module _ (κs : Lfts 1) (v : Ring) (s : MutBor (List ℕ)) (i : ℕ) (r : Answer) (e : AtExit promise.remove.ended κs)
     (learnt : fn.remove.Reads.Learnt κs (v, (s, (i, tt))) r e) (done : r.number ≡ 0) where
   pub remove_least : Least (remove i) (tray v s.now) (seen r e.1.0.now)
   remove_least = call_least _ _ _ _ _ learnt refl done

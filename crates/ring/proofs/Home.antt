@@ -6,6 +6,7 @@ use mathlib.Core.List.{List, [], ◌∷◌}
 use lib.ListN.{length, get_or}
 use contract.Lifetimes.{Lfts}
 use denote.Ref.{Bor}
+use denote.MutBor.{MutBor}
 use denote.Triple.Clauses.{AtExit}
 use Rattle.slots.specs.Layout.{ring}
 use Rattle.table.specs.Tray.{Tray}
@@ -24,7 +25,7 @@ pub call_home : (call : Call) (v : Ring) (s z : List ℕ) (a : Answer) → Meets
 call_home call v s z a meets = done_home ring call (tray v s) _ meets.row
 
 -- In what follows v is the ring and s its slots, r is the result, and e the arguments as they are at the return. Those that can take the last entry out:
-module _ (κs : Lfts 1) (v : Ring) (s : Bor (List ℕ)) (r : Answer) where
+module _ (κs : Lfts 1) (v : Ring) (s : MutBor (List ℕ)) (r : Answer) where
   pub pop_back_home : (e : AtExit promise.pop_back.ended κs) → fn.pop_back.Reads.Learnt κs (v, (s, tt)) r e → r.number ≡ 0
       → r.ring.len ≡ 0 → r.ring.head ≡ 0
   pop_back_home e learnt = call_home _ _ _ _ _ learnt
@@ -55,7 +56,7 @@ pub data Pushed : (v : Ring) (slots xs : List ℕ) (v' : Ring) (slots' : List �
   pushed : {v v' : Ring} {s s₁ s' xs : List ℕ} {x : ℕ} {a : Answer} → Meets (push x) v s a s₁ → Pushed a.ring s₁ xs v' s' → Pushed v s (x ∷ xs) v' s'
 
 -- one more, from the function's own contract: `e.1.0` are the slots as it leaves them
-pub push_back_pushed : (κs : Lfts 1) (v v' : Ring) (s : Bor (List ℕ)) (x : ℕ) (r : Answer) (e : AtExit promise.push_back.ended κs) (xs s' : List ℕ)
+pub push_back_pushed : (κs : Lfts 1) (v v' : Ring) (s : MutBor (List ℕ)) (x : ℕ) (r : Answer) (e : AtExit promise.push_back.ended κs) (xs s' : List ℕ)
     → fn.push_back.Reads.Learnt κs (v, (s, (x, tt))) r e → Pushed r.ring e.1.0.now xs v' s' → Pushed v s.now (x ∷ xs) v' s'
 push_back_pushed κs v v' s x r e xs s' learnt rest = pushed learnt rest
 
@@ -63,11 +64,11 @@ pushed_is : {v v' : Ring} {s s' xs : List ℕ} → Pushed v s xs v' s' → tray 
 pushed_is begun = refl
 pushed_is (pushed {xs = xs} meets rest) = pushed_is rest ∙ ap (λ (t : Tray). stacked t xs) (ap (λ o. o.tray) meets.row)
 
-pub stack_lies : (v v' : Ring) (s : Bor (List ℕ)) (xs s' : List ℕ) → Valid v s → v.len ≡ 0 → length xs ≤ length s.now → Pushed v s.now xs v' s'
+pub stack_lies : (v v' : Ring) (s : Bor (List ℕ)) (xs s' : List ℕ) → Valid v s.now → v.len ≡ 0 → length xs ≤ length s.now → Pushed v s.now xs v' s'
     → Lies (tray v s.now) xs (tray v' s')
 stack_lies v v' s xs s' ok none room p = subst⁻¹ (λ (t : Tray). Lies (tray v s.now) xs t) (pushed_is p) (lies (tray v s.now) ok none xs room)
 
 -- in a word: entry j stands in slot j
-pub stack_slots : (v v' : Ring) (s : Bor (List ℕ)) (xs s' : List ℕ) → Valid v s → v.len ≡ 0 → length xs ≤ length s.now → Pushed v s.now xs v' s'
+pub stack_slots : (v v' : Ring) (s : Bor (List ℕ)) (xs s' : List ℕ) → Valid v s.now → v.len ≡ 0 → length xs ≤ length s.now → Pushed v s.now xs v' s'
     → (j : ℕ) → j < length xs → get_or s' j 0 ≡ get_or xs j 0
 stack_slots v v' s xs s' ok none room p = (stack_lies v v' s xs s' ok none room p).slot

@@ -50,8 +50,8 @@ module _ (κs : Lfts 1) where
   pub with_capacity_once : Twice promise.with_capacity.ended κs (fn.with_capacity.Reads.Learnt κs) (λ r e r' e'. r ≡ r')
   with_capacity_once a r r' e e' p q = (one_made r r' _ _ p q).0
 
-  pub len-once : Twice promise.len.ended κs (fn.len.Reads.Learnt κs) (λ r e r' e'. r ≡ r')
-  len-once a r r' e e' p q = (one r r' _ _ p q).0
+  pub len_once : Twice promise.len.ended κs (fn.len.Reads.Learnt κs) (λ r e r' e'. r ≡ r')
+  len_once a r r' e e' p q = (one r r' _ _ p q).0
 
   pub read_once : Twice promise.read.ended κs (fn.read.Reads.Learnt κs) (λ r e r' e'. r ≡ r')
   read_once a r r' e e' p q = (one r r' _ _ p q).0

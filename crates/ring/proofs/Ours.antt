@@ -26,9 +26,9 @@ module _ (w : World) (κs : Lfts 1) where
   with_capacity_ours a r e learnt = ours_make w _ _ _ _ refl learnt.row
 
 module _ (w : World) (i : ℕ) (κs : Lfts 1) where
-  pub len-ours : (a : ArgsD promise.len.signature κs) (r : ResD promise.len.signature κs) (e : AtExit promise.len.ended κs)
+  pub len_ours : (a : ArgsD promise.len.signature κs) (r : ResD promise.len.signature κs) (e : AtExit promise.len.ended κs)
       → Is w i ring (tray a.0 a.1.0.now) → fn.len.Reads.Learnt κs a r e → Ours w (on i (look len) (seen r a.1.0.now))
-  len-ours a r e is learnt = ours_on w i _ _ _ _ refl is learnt.row
+  len_ours a r e is learnt = ours_on w i _ _ _ _ refl is learnt.row
 
   pub read_ours : (a : ArgsD promise.read.signature κs) (r : ResD promise.read.signature κs) (e : AtExit promise.read.ended κs)
       → Is w i ring (tray a.0 a.1.0.now) → fn.read.Reads.Learnt κs a r e → Ours w (on i (look (read a.1.1.0)) (seen r a.1.0.now))

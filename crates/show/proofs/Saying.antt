@@ -79,10 +79,10 @@ module _ {a b c : List ℕ} {at m m2 : ℕ} where
   vector_wrote cap n total p q = wrote_then p q
 
   module _ {d : List ℕ} {m3 : ℕ} where
-    pub len-total-wrote : (n total : ℕ) → Wrote a at (bytes ", length ") m b → Wrote b m (numbered n (bytes ", total ")) m2 c → Wrote c m2 (numbered total (bytes "\n")) m3 d
+    pub len_total_wrote : (n total : ℕ) → Wrote a at (bytes ", length ") m b → Wrote b m (numbered n (bytes ", total ")) m2 c → Wrote c m2 (numbered total (bytes "\n")) m3 d
         → Wrote a at (len_total n total) m3 d
     unfolding len_total
-    len-total-wrote n total p q r = wrote_then p (wrote_then q r)
+    len_total_wrote n total p q r = wrote_then p (wrote_then q r)
 
     pub ring_wrote : (cap h n total : ℕ) → Wrote a at (sized (bytes "ring of ") cap) m b → Wrote b m (headed h) m2 c → Wrote c m2 (len_total n total) m3 d
         → Wrote a at (ring_line cap h n total) m3 d

@@ -68,8 +68,8 @@ unfolding moved
 moved_each was now carry n test each = tally_cong n _ test each
 
 -- how many positions are before i, from i on, and past it
-pub tally-before : (n i : ℕ) → i ≤ n → tally n (λ j. ltb j i) ≡ i
-tally-before n i h =
+pub tally_before : (n i : ℕ) → i ≤ n → tally n (λ j. ltb j i) ≡ i
+tally_before n i h =
     tally_run n 0 i _ (omega arith) h (λ j _ l. lt-ltb j i l) (λ j l. absurd (omega arith)) (λ j g _. le-ltb j i g) ∙ omega arith
 
 pub tally_from : (n i : ℕ) → i ≤ n → tally n (λ j. leb i j) ≡ n - i

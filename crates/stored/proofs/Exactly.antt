@@ -63,7 +63,7 @@ module _ (k : Kind) (t : Tray) (s : Shaped k t) where
   head_is = ap (field 8 4) text_is ∙ pieces.head_found (kind_byte k) (cap t) t.head t.len (slot_lines t.slots) s.at
 
   len_is : field 12 4 (form k t) ≡ t.len
-  len_is = ap (field 12 4) text_is ∙ pieces.len-found (kind_byte k) (cap t) t.head t.len (slot_lines t.slots) s.held
+  len_is = ap (field 12 4) text_is ∙ pieces.len_found (kind_byte k) (cap t) t.head t.len (slot_lines t.slots) s.held
 
   rest_is : drop 17 (form k t) ≡ slot_lines t.slots
   rest_is = ap (drop 17) text_is ∙ pieces.rest_found (kind_byte k) (cap t) t.head t.len (slot_lines t.slots)

@@ -10,7 +10,7 @@ use Rattle.slots.specs.Layout.{Kind}
 use Rattle.table.specs.Tray.{Tray, cap}
 use Rattle.digits.specs.Hex.{hex, lf}
 use Rattle.digits.specs.Put.{put, put_whole}
-use Rattle.digits.proofs.Puts.{put-after, put_within, after_hex, put_ended, length_hex}
+use Rattle.digits.proofs.Puts.{put_after, put_within, after_hex, put_ended, length_hex}
 use Rattle.stored.specs.Form.{head_in, kind_byte, state_digits, first_line, slot_line, slot_lines, form, size}
 
 -- the numbers of the first line, each where the one before it ends
@@ -59,7 +59,7 @@ slots_turn slots text mid all i at is lt em =
     let left : drop i slots ≡ x ∷ drop (i + 1) slots = rw (add-one, drop-cons slots i 0) in
     let rest : List ℕ = slot_lines (drop (i + 1) slots) in
     ap (λ t. put t (at + 9) rest) em
-    ∙ put-after text (slot_line x) rest at 9 (at + 9) (length_slot_line x) refl
+    ∙ put_after text (slot_line x) rest at 9 (at + 9) (length_slot_line x) refl
     ∙ sym (ap (λ s. put text at (slot_lines s)) left)
     ∙ is
 
@@ -92,4 +92,4 @@ unfolding form
 form_put k t text mid em =
     let first : List ℕ = first_line (kind_byte k) (cap t) (head_in k t.head) t.len in
     ap (λ t'. put t' 17 (slot_lines t.slots)) em
-    ∙ put-after text first (slot_lines t.slots) 0 17 17 (length_first (kind_byte k) (cap t) (head_in k t.head) t.len) refl
+    ∙ put_after text first (slot_lines t.slots) 0 17 17 (length_first (kind_byte k) (cap t) (head_in k t.head) t.len) refl

@@ -148,8 +148,8 @@ module _ (kind c h n : ℕ) (rest : List ℕ) where
   pub head_found : h < 65536 → field 8 4 whole ≡ h
   head_found u = says_at 4 h 8 l4 (more 6 ∙ d4 4 ∙ d8 0) u
 
-  pub len-found : n < 65536 → field 12 4 whole ≡ n
-  len-found u = says_at 4 n 12 (lf ∷ rest) (more 10 ∙ d4 8 ∙ d8 4 ∙ d12 0) u
+  pub len_found : n < 65536 → field 12 4 whole ≡ n
+  len_found u = says_at 4 n 12 (lf ∷ rest) (more 10 ∙ d4 8 ∙ d8 4 ∙ d12 0) u
 
   abbrev digits : List ℕ
   digits = hex 2 kind ++ (hex 2 0 ++ (hex 4 c ++ (hex 4 h ++ hex 4 n)))

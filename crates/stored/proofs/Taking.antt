@@ -187,8 +187,8 @@ module _ (k : Kind) (text slots : List ℕ) (j : Judged) (ej : j ≡ judged k te
   done_is : reads k text slots ≡ gives 0 0 (told k text).head (told k text).len (told k text).slots
   done_is = reads_done k text slots few (ok k text j ej t) (sym (cap_read k text j ej t) ∙ same)
 
-  pub len-fits : j.first.len ≤ length out
-  len-fits = omega (arith, told_valid k text j ej t, out_long, len_read k text j ej t)
+  pub len_fits : j.first.len ≤ length out
+  len_fits = omega (arith, told_valid k text j ej t, out_long, len_read k text j ej t)
 
   pub out_few : length out ≤ most
   out_few = omega (arith, told_valid k text j ej t, out_long)

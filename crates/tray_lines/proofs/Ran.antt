@@ -44,12 +44,12 @@ after_more : (w : World) (ls : List (List ℕ)) (l : List ℕ) → after w (ls +
 after_more w [] l = refl
 after_more w (k ∷ ls) l = after_more (tells w k).world ls l
 
-told-after : {t : Trays} {ls : List (List ℕ)} → Told t ls → world t ≡ after begun ls
-told-after (started κs a r e learnt) = learnt
-told-after (line {t} {ls} κs a r e before same learnt) =
+told_after : {t : Trays} {ls : List (List ℕ)} → Told t ls → world t ≡ after begun ls
+told_after (started κs a r e learnt) = learnt
+told_after (line {t} {ls} κs a r e before same learnt) =
     ap (λ (x : Tells). x.world) learnt
     ∙ ap (λ (u : Trays). (tells (world u) a.1.0.now).world) same
-    ∙ ap (λ (w : World). (tells w a.1.0.now).world) (told-after before)
+    ∙ ap (λ (w : World). (tells w a.1.0.now).world) (told_after before)
     ∙ sym (after_more begun ls a.1.0.now)
 
 -- the balance of some lines, where the program stands after them
@@ -62,7 +62,7 @@ balance ls e x =
 -- DEMAND 3 OF ANY LINES THAT ARE TOLD.
 pub demand_3_of_lines : {t : Trays} {ls : List (List ℕ)} → Told t ls → (x : ℕ)
     → entered x [] (lines (happened ls)) ≡ handed x [] (lines (happened ls)) + dropped x [] (lines (happened ls)) + standing_all x (world t)
-demand_3_of_lines {t} {ls} told x = balance ls (told-after told) x
+demand_3_of_lines {t} {ls} told x = balance ls (told_after told) x
 
 -- `start` and `fresh` were called, and then `feed`, any number of times, with the state last returned: the bytes that were taken, and those
 -- that were answered.

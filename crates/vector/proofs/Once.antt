@@ -47,8 +47,8 @@ module _ (κs : Lfts 1) where
   pub from_elem_once : Twice fns·promise.from_elem.ended κs (fns.from_elem.Reads.Learnt κs) (λ r e r' e'. (r ≡ r') × (e.0.now ≡ e'.0.now))
   from_elem_once a r r' e e' = one_made r r' _ _
 
-  pub len-once : Twice fns·promise.len.ended κs (fns.len.Reads.Learnt κs) (λ r e r' e'. r ≡ r')
-  len-once a r r' e e' l l' = (one r r' _ _ l l').0
+  pub len_once : Twice fns·promise.len.ended κs (fns.len.Reads.Learnt κs) (λ r e r' e'. r ≡ r')
+  len_once a r r' e e' l l' = (one r r' _ _ l l').0
 
   pub is_empty_once : Twice fns·promise.is_empty.ended κs (fns.is_empty.Reads.Learnt κs) (λ r e r' e'. r ≡ r')
   is_empty_once a r r' e e' l l' = (one r r' _ _ l l').0

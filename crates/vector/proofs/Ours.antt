@@ -35,9 +35,9 @@ module _ (w : World) (κs : Lfts 1) where
   from_elem_ours a r e learnt = ours_make w _ _ _ _ refl learnt.row
 
 module _ (w : World) (i : ℕ) (κs : Lfts 1) where
-  pub len-ours : (a : ArgsD fns·promise.len.signature κs) (r : ResD fns·promise.len.signature κs) (e : AtExit fns·promise.len.ended κs)
+  pub len_ours : (a : ArgsD fns·promise.len.signature κs) (r : ResD fns·promise.len.signature κs) (e : AtExit fns·promise.len.ended κs)
       → Is w i vector (tray a.0 a.1.0.now) → fns.len.Reads.Learnt κs a r e → Ours w (on i (look len) (seen r a.1.0.now))
-  len-ours a r e is learnt = ours_on w i _ _ _ _ refl is learnt.row
+  len_ours a r e is learnt = ours_on w i _ _ _ _ refl is learnt.row
 
   pub is_empty_ours : (a : ArgsD fns·promise.is_empty.signature κs) (r : ResD fns·promise.is_empty.signature κs) (e : AtExit fns·promise.is_empty.ended κs)
       → Is w i vector (tray a.0 a.1.0.now) → fns.is_empty.Reads.Learnt κs a r e → Ours w (on i (look is_empty) (seen r a.1.0.now))

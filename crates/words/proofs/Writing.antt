@@ -7,7 +7,7 @@ use native.Mathlib.Omega.{arith}
 use lib.ListN.{length, get_or, set, drop, length-set, length-append, drop_of_length-le}
 use lib.Seq.{drop-cons}
 use Rattle.digits.specs.Put.{put}
-use Rattle.digits.proofs.Puts.{put_one, put-after}
+use Rattle.digits.proofs.Puts.{put_one, put_after}
 use Rattle.words.specs.Wrote.{Wrote}
 
 pub wrote_none : {a : List ℕ} {at : ℕ} → Wrote a at [] at a
@@ -19,7 +19,7 @@ wrote_one a at b = record { bytes = sym (put_one a at b); behind = refl; long = 
 
 pub wrote_then : {a b c : List ℕ} {at m e : ℕ} {s s2 : List ℕ} → Wrote a at s m b → Wrote b m s2 e c → Wrote a at (s ++ s2) e c
 wrote_then {a} {b} {c} {at} {m} {e} {s} {s2} p q = record {
-  bytes = q.bytes ∙ ap (λ t. put t m s2) p.bytes ∙ put-after a s s2 at (length s) m refl (sym p.behind);
+  bytes = q.bytes ∙ ap (λ t. put t m s2) p.bytes ∙ put_after a s s2 at (length s) m refl (sym p.behind);
   behind = omega (arith, p.behind, q.behind, length-append s s2);
   long = q.long ∙ p.long;
 }
@@ -39,7 +39,7 @@ left_none p = record { bytes = p.bytes; behind = omega (arith, p.behind); long =
 
 pub left_then : {a b c : List ℕ} {at end e : ℕ} {all s s2 : List ℕ} → Left a at all end (s ++ s2) b → Wrote b end s e c → Left a at all e s2 c
 left_then {a} {b} {c} {at} {end} {e} {all} {s} {s2} p q = record {
-  bytes = ap (λ t. put t e s2) q.bytes ∙ put-after b s s2 end (length s) e refl (sym q.behind) ∙ p.bytes;
+  bytes = ap (λ t. put t e s2) q.bytes ∙ put_after b s s2 end (length s) e refl (sym q.behind) ∙ p.bytes;
   behind = omega (arith, p.behind, q.behind, length-append s s2);
   long = q.long ∙ p.long;
 }

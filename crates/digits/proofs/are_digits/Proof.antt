@@ -9,18 +9,18 @@ use Rattle.digits.proofs.Digits.{bad_turn, bad_end}
 use Rattle.digits.proofs.are_digits.Statement.{statement}
 use Rattle.digits.proofs.are_digits.Tie as tie
 
-abbrev invariant_loop : tie.invariant_loop
-invariant_loop part bad₀ i₀ bad i = (i ≤ length part) × (bad || not (are_digits (drop i part)) ≡ not (are_digits part))
+abbrev invariant-loop-i : tie.invariant-loop-i
+invariant-loop-i part bad₀ i₀ bad i = (i ≤ length part) × (bad || not (are_digits (drop i part)) ≡ not (are_digits part))
 
-abbrev decreases_loop : tie.decreases_loop
-decreases_loop part bad₀ i₀ bad i = length part - i
+abbrev decreases-loop-i : tie.decreases-loop-i
+decreases-loop-i part bad₀ i₀ bad i = length part - i
 
 pub are_digits_spec : {M : Type 1} → statement M
 are_digits_spec =
     tie.close
     (tie.spec
-    invariant_loop
-    decreases_loop
+    invariant-loop-i
+    decreases-loop-i
     (λ c. search rules)
     (λ c. search rules)
     (λ c κs. search rules)

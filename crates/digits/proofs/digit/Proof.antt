@@ -6,4 +6,4 @@ use Rattle.digits.proofs.digit.Tie as tie
 
 pub digit_spec : {M : Type 1} → statement M
 digit_spec =
-    tie.close (tie.spec (λ c. search rules) (λ c. search rules) (λ c. simp (lt-ltb _ _ c.if1.true)) (λ c. simp (le-ltb _ _ c.if1.false)))
+    tie.close (tie.spec (λ c. search rules) (λ c. search rules) (λ c. simp (lt-ltb _ _ c.if-d-lt10.true)) (λ c. simp (le-ltb _ _ c.if-d-lt10.false)))

@@ -9,24 +9,24 @@ use Rattle.digits.proofs.Digits.{low_turn, low_end, low_many, grows, fits, times
 use Rattle.digits.proofs.low.Statement.{statement}
 use Rattle.digits.proofs.low.Tie as tie
 
-abbrev invariant_loop : tie.invariant_loop
-invariant_loop part x₀ i₀ x i = (i ≤ length part) × (lows_from x (drop i part) ≡ lows_from 0 part) × (x < 16 ^ i)
+abbrev invariant-loop-i : tie.invariant-loop-i
+invariant-loop-i part x₀ i₀ x i = (i ≤ length part) × (lows_from x (drop i part) ≡ lows_from 0 part) × (x < 16 ^ i)
 
-abbrev decreases_loop : tie.decreases_loop
-decreases_loop part x₀ i₀ x i = length part - i
+abbrev decreases-loop-i : tie.decreases-loop-i
+decreases-loop-i part x₀ i₀ x i = length part - i
 
 pub low_spec : {M : Type 1} → statement M
 low_spec =
     tie.close
     (tie.spec
-    invariant_loop
-    decreases_loop
+    invariant-loop-i
+    decreases-loop-i
     (λ c. search (low_many, none_small))
     (λ c. search rules)
-    (λ c. record { fits = times_fits _ _ c.before.loop.invariant.2 (omega arith) })
+    (λ c. record { fits = times_fits _ _ c.before.loop-i.invariant.2 (omega arith) })
     (λ c. search rules)
     (λ c κs. search rules)
-    (λ c. record { fits = fits _ _ _ c.before.before.before.loop.invariant.2 c.low_of.ensures.1 (omega arith) })
+    (λ c. record { fits = fits _ _ _ c.before.before.before.loop-i.invariant.2 c.low_of.ensures.1 (omega arith) })
     (λ c. search rules)
     (λ c. search rules)
     (λ c. search (low_turn, grows, rules))

@@ -10,18 +10,18 @@ use Rattle.digits.proofs.Puts.{put_fits, put_stays, put_digit, put_none}
 use Rattle.digits.proofs.put_hex.Statement.{statement}
 use Rattle.digits.proofs.put_hex.Tie as tie
 
-abbrev invariant_loop : tie.invariant_loop
-invariant_loop text₀ at count x room₀ k₀ rest₀ text k rest = (k ≤ count) × (length text ≡ length text₀) × (put text at (hex k rest) ≡ put_whole text₀ at (hex count x))
+abbrev invariant-loop-k : tie.invariant-loop-k
+invariant-loop-k text₀ at count x room₀ k₀ rest₀ text k rest = (k ≤ count) × (length text ≡ length text₀) × (put text at (hex k rest) ≡ put_whole text₀ at (hex count x))
 
-abbrev decreases_loop : tie.decreases_loop
-decreases_loop text₀ at count x room₀ k₀ rest₀ text k rest = k
+abbrev decreases-loop-k : tie.decreases-loop-k
+decreases-loop-k text₀ at count x room₀ k₀ rest₀ text k rest = k
 
 pub put_hex_spec : {M : Type 1} → statement M
 put_hex_spec =
     tie.close
     (tie.spec
-    invariant_loop
-    decreases_loop
+    invariant-loop-k
+    decreases-loop-k
     (λ c. put_stays _ _ _ _ (omega arith))
     (λ c. put_stays _ _ _ _ (omega arith))
     (λ c. (omega arith, refl, put_fits _ _ _ _ (omega arith)))

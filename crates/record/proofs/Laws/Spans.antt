@@ -93,9 +93,9 @@ after_pick : (text : List ℕ) (at : ℕ) (c : Bool) (x y : Found) → cond c (a
 after_pick text at true x y = refl
 after_pick text at false x y = refl
 
-quoted-after : (text : List ℕ) (q : ℕ) → scan (drop (q + 1) text) (quoted q) (q + 1) ≡ after_field text q (quoted_at (q + 1) (drop (q + 1) text))
+quoted_after : (text : List ℕ) (q : ℕ) → scan (drop (q + 1) text) (quoted q) (q + 1) ≡ after_field text q (quoted_at (q + 1) (drop (q + 1) text))
 unfolding Quoted
-quoted-after text q =
+quoted_after text q =
     let further : q + 1 + (body_run (drop (q + 1) text) + 1) ≡ q + 1 + body_run (drop (q + 1) text) + 1 = omega arith in
     quoted_scan (drop (q + 1) text) q (q + 1)
     ∙ ap (λ r. cond (ltb (body_run (drop (q + 1) text)) (length (drop (q + 1) text)))
@@ -104,9 +104,9 @@ quoted-after text q =
     ∙ after_pick text q (ltb (body_run (drop (q + 1) text)) (length (drop (q + 1) text)))
     (Field (q + 1) (q + 1 + body_run (drop (q + 1) text)) (q + 1 + body_run (drop (q + 1) text) + 1)) Unclosed
 
-plain-after : (text : List ℕ) (at : ℕ) → scan (drop at text) (plain at) at ≡ after_field text at (plain_at at (drop at text))
+plain_after : (text : List ℕ) (at : ℕ) → scan (drop at text) (plain at) at ≡ after_field text at (plain_at at (drop at text))
 unfolding Plain
-plain-after text at =
+plain_after text at =
     plain_scan (drop at text) at at
     ∙ ap (λ r. stops r (at, at + run special (drop at text)) (at + run special (drop at text))) (drop-drop (run special (drop at text)) at text)
 
@@ -127,8 +127,8 @@ field_scan text at = go (starts quote (drop at text)) refl
         let h : at < length text = inside text at quote e in
         rw e
         (ap (λ s. scan s fresh at) (left text at h) ∙ fresh_quoted (drop (at + 1) text) at (get_or text at 0) (stands_at text at quote h ∙ e)
-        ∙ quoted-after text at)
-    go false e = rw e (fresh_plain (drop at text) at e ∙ plain-after text at)
+        ∙ quoted_after text at)
+    go false e = rw e (fresh_plain (drop at text) at e ∙ plain_after text at)
 
 -- a field lies inside the text, behind where it was looked for
 abbrev pub Within : (text : List ℕ) (at : ℕ) → Found → Type 0

@@ -163,9 +163,9 @@ not_both true d h = h refl
 not_both false d h = refl
 
 -- It goes wrong there with any bytes behind the text, unless p is its last byte and a CR; and then only an LF helps.
-pub bad-before : (text : List ℕ) (p : ℕ) (others : List ℕ) → (scanned text).ending ≡ bad p
+pub bad_before : (text : List ℕ) (p : ℕ) (others : List ℕ) → (scanned text).ending ≡ bad p
     → (p + 1 ≡ length text → get_or text p 0 ≡ cr → starts lf others ≡ false) → scanned (text ++ others) ≡ scanned text
-bad-before text p others e alone =
+bad_before text p others e alone =
     let w = wrong_at text p e in
     let fields = (scanned text).fields in
     grows w others ∙ (ap (λ c. cond c (up_to fields (done (p + 2))) (up_to fields (bad p))) (none w w.behind refl) ∙ sym (ap (up_to fields) e))
@@ -178,7 +178,7 @@ bad-before text p others e alone =
 
 pub bad_decided : (text : List ℕ) (p : ℕ) (others : List ℕ) → (scanned text).ending ≡ bad p → (p + 1 ≡ length text → get_or text p 0 ≡ cr → ⊥)
     → scanned (text ++ others) ≡ scanned text
-bad_decided text p others e alone = bad-before text p others e (λ last is_cr. absurd (alone last is_cr))
+bad_decided text p others e alone = bad_before text p others e (λ last is_cr. absurd (alone last is_cr))
 
 -- What stands behind that byte may be anything: only behind a CR it may not be an LF.
 pub bad_cut : (text : List ℕ) (p : ℕ) (others : List ℕ) → (scanned text).ending ≡ bad p → (get_or text p 0 ≡ cr → starts lf others ≡ false)

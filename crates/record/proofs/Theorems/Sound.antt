@@ -52,10 +52,10 @@ not_special_text b e =
       no_lf = eqb-false b lf z.1;
     }
 
-more-after : (f : ℕ × ℕ) (at : ℕ) (s : List ℕ) (later : Reading) → When (From (at + 1) s) later → When (After f at (comma ∷ s)) (more f later)
-more-after f at s later (read x) = read (goes_on x)
-more-after f at s later not_read = not_read
-more-after f at s later not_closed = not_closed
+more_after : (f : ℕ × ℕ) (at : ℕ) (s : List ℕ) (later : Reading) → When (From (at + 1) s) later → When (After f at (comma ∷ s)) (more f later)
+more_after f at s later (read x) = read (goes_on x)
+more_after f at s later not_read = not_read
+more_after f at s later not_closed = not_closed
 
 and_both : (a b : Bool) → a && b ≡ true → (a ≡ true) × (b ≡ true)
 and_both true b e = (refl, e)
@@ -65,10 +65,10 @@ crlf_ends : (at : ℕ) (s : List ℕ) → starts lf s ≡ true → Ends at (cr �
 crlf_ends at [] e = absurd (let z : ◌≡◌ {A = ℕ} 0 1 = cc in omega arith)
 crlf_ends at (b ∷ s) e = rw (eqb-true b lf e) Ends.crlf
 
-stop-after : (f : ℕ × ℕ) (at b : ℕ) (s : List ℕ) (later : Reading) → When (From (at + 1) s) later → When (After f at (b ∷ s)) (stop f at b s later)
-stop-after f at b s later x =
+stop_after : (f : ℕ × ℕ) (at b : ℕ) (s : List ℕ) (later : Reading) → When (From (at + 1) s) later → When (After f at (b ∷ s)) (stop f at b s later)
+stop_after f at b s later x =
     either (When _) (eqb b comma)
-    (λ e. rw (eqb-true b comma e) (more-after f at s later x))
+    (λ e. rw (eqb-true b comma e) (more_after f at s later x))
     (λ _. either (When _) (eqb b lf)
     (λ e. rw (eqb-true b lf e) (read (ends Ends.bare_lf)))
     (λ _. either (When _) (eqb b cr && starts lf s)
@@ -118,12 +118,12 @@ scan_means (b ∷ s) fresh at =
     either (When _) (eqb b quote)
     (λ e. rw (eqb-true b quote e) (when_map _ _ (λ fields next. open_quote at next s fields) (scan_means s (quoted at) (at + 1))))
     (λ _. either (When _) (special b)
-    (λ _. when_map _ _ (λ fields next x. in_fresh (then _ _ _ _ _ _ _ _ (Field.non_escaped NonEscaped.none) x)) (stop-after (at, at) at b s _ later))
+    (λ _. when_map _ _ (λ fields next x. in_fresh (then _ _ _ _ _ _ _ _ (Field.non_escaped NonEscaped.none) x)) (stop_after (at, at) at b s _ later))
     (λ e. when_map _ _ (λ fields next. first_text at next s fields b (not_special_text b e)) (scan_means s (plain at) (at + 1))))
 scan_means (b ∷ s) (plain a) at =
     let later : When (From (at + 1) s) (scan s fresh (at + 1)) = when_map _ _ (λ fields next. unfresh (at + 1) next s fields) (scan_means s fresh (at + 1)) in
     either (When _) (special b)
-    (λ _. when_map _ _ (λ fields next x. in_plain NonEscaped.none x) (stop-after (a, at) at b s _ later))
+    (λ _. when_map _ _ (λ fields next x. in_plain NonEscaped.none x) (stop_after (a, at) at b s _ later))
     (λ e. when_map _ _ (λ fields next. more_text at next s fields a b (not_special_text b e)) (scan_means s (plain a) (at + 1)))
 scan_means (b ∷ s) (quoted q) at =
     either (When _) (eqb b quote)
@@ -133,7 +133,7 @@ scan_means (b ∷ s) (closed q e) at =
     let later : When (From (at + 1) s) (scan s fresh (at + 1)) = when_map _ _ (λ fields next. unfresh (at + 1) next s fields) (scan_means s fresh (at + 1)) in
     either (When _) (eqb b quote)
     (λ e. rw (eqb-true b quote e) (when_map _ _ (λ fields next. again) (scan_means s (quoted q) (at + 1))))
-    (λ _. when_map _ _ (λ fields next. in_closed) (stop-after (q + 1, e) at b s _ later))
+    (λ _. when_map _ _ (λ fields next. in_closed) (stop_after (q + 1, e) at b s _ later))
 
 unread : {P : List (ℕ × ℕ) → ℕ → Type 0} {fields : List (ℕ × ℕ)} {next : ℕ} → When P (up_to fields (done next)) → P fields next
 unread (read x) = x

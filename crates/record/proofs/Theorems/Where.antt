@@ -22,8 +22,8 @@ endings : {r : Reading} {fields : List (ℕ × ℕ)} {ending : Ending} → r ≡
 endings e = ap (λ (r : Reading). r.ending) e
 
 -- a text cut before a byte, and behind it
-cut-before : (before : List ℕ) (b : ℕ) (behind : List ℕ) (p : ℕ) → p ≡ length before → take p (before ++ (b ∷ behind)) ≡ before
-cut-before before b behind p e = take_at before (b ∷ behind) p (sym e)
+cut_before : (before : List ℕ) (b : ℕ) (behind : List ℕ) (p : ℕ) → p ≡ length before → take p (before ++ (b ∷ behind)) ≡ before
+cut_before before b behind p e = take_at before (b ∷ behind) p (sym e)
 
 cut_behind : (before : List ℕ) (b : ℕ) (behind : List ℕ) (p : ℕ) → p ≡ length before → take (p + 1) (before ++ (b ∷ behind)) ≡ before ++ (b ∷ [])
 cut_behind before b behind p e =
@@ -43,7 +43,7 @@ bad_at text p e =
     let here : p ≡ length w.before = omega arith in
     record {
       before =
-          subst Fits (sym (ap (take p) w.whole ∙ cut-before w.before w.byte w.behind p here))
+          subst Fits (sym (ap (take p) w.whole ∙ cut_before w.before w.byte w.behind p here))
           ((fits_done w.before).1 (p, endings w.cut));
       behind =
           subst Bad (sym (ap (take (p + 1)) w.whole ∙ cut_behind w.before w.byte w.behind p here))

@@ -13,7 +13,7 @@ use Rattle.table.specs.Tray.{valid}
 use Rattle.table.specs.Calls.{push, pop, pop_front, insert, remove, resize, clear, look, len, reserve, append, new, with_capacity, from_elem}
 use Rattle.table.specs.Does.{does, does2, made}
 use Rattle.table.proofs.Laws.Made.{new_done, with_capacity_done}
-use Rattle.table.proofs.Laws.Looks.{len-done}
+use Rattle.table.proofs.Laws.Looks.{len_done}
 use Rattle.table.proofs.Theorems.Trays.{tray, gives, answers, W}
 use Rattle.table.proofs.Cases.Samples.{answers2, overfull}
 
@@ -108,6 +108,6 @@ unfolding valid
 mosts_done = (
   sym (new_done ring most _ few refl),
   sym (with_capacity_done vector most _ few 4096 (rw (length-replicate {A = ℕ} 4096 7) (omega arith)) refl),
-  sym (len-done ring (tray 4095 4096 most) _ refl refl _ 4097 refl refl refl),
-  sym (len-done vector (tray 0 4096 most) _ refl refl _ 4097 refl refl refl),
+  sym (len_done ring (tray 4095 4096 most) _ refl refl _ 4097 refl refl refl),
+  sym (len_done vector (tray 0 4096 most) _ refl refl _ 4097 refl refl refl),
 )

@@ -28,8 +28,8 @@ module _ (k : Kind) (t : Tray) (o : Outcome) (ok : invalid k t ≡ false) (home 
       cc (eo, home, done_is k t (look q) ok clear, many k t, still k t, as_it_was k t ok)
 
   -- the length as one of the m numbers that an entry can be, which are enough whatever its width
-  pub len-done : (value m : ℕ) → value ≡ t.len % m → ltb most m ≡ true → o ≡ gives value 0 t.head t.len t.slots → o ≡ does k (look len) t
-  len-done value m ev wide eo =
+  pub len_done : (value m : ℕ) → value ≡ t.len % m → ltb most m ≡ true → o ≡ gives value 0 t.head t.len t.slots → o ≡ does k (look len) t
+  len_done value m ev wide eo =
       let f = fit k t ok in
       let all : value ≡ t.len = ev ∙ mod-eq_of_lt (omega (arith, ltb-true most m wide)) in
       look_done len tt (rw all at eo)

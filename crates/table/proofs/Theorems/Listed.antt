@@ -27,8 +27,8 @@ pub record Afterwards (k : Kind) (t : Tray) (l : List ℕ) (h : ℕ) (now : Tray
   pub untouched : (s : ℕ) → s < cap t → length l ≤ pos k (cap t) now.head s → t.len ≤ pos k (cap t) t.head s
       → get_or now.slots s 0 ≡ get_or t.slots s 0
 
-relay-after : (k : Kind) (t : Tray) (l : List ℕ) (h : ℕ) → Leaves k t l h → Afterwards k t l (head_after k (length l) h) (relay k t l h)
-relay-after k t l h left = record {
+relay_after : (k : Kind) (t : Tray) (l : List ℕ) (h : ℕ) → Leaves k t l h → Afterwards k t l (head_after k (length l) h) (relay k t l h)
+relay_after k t l h left = record {
   listed = relay_list k t l h left.inside left.room;
   head = refl;
   len = refl;
@@ -45,7 +45,7 @@ pub record Listed (k : Kind) (t : Tray) (l : List ℕ) (r : Row) (o : Outcome) :
   pub cursor : o.cursor ≡ r.cursor
 
 done_listed : (k : Kind) (t : Tray) (l : List ℕ) (r : Row) → Leaves k t l r.head → Listed k t l r (done k t l r)
-done_listed k t l r left = record { tray = relay-after k t l r.head left; value = refl; moves = refl; cursor = refl }
+done_listed k t l r left = record { tray = relay_after k t l r.head left; value = refl; moves = refl; cursor = refl }
 
 -- A call on one container. Here and below o is what is seen of a call, as its promise says.
 pub call_listed : (k : Kind) (call : Call) (t : Tray) (o : Outcome) → o ≡ does k call t → o.number ≡ 0 → Listed k t (after call (list k t)) (row_of k call t) o
@@ -74,5 +74,5 @@ two_listed k k2 call t t2 o promised zero =
     let clear = two_clear k k2 call t t2 o promised zero in
     let left = two_leave k k2 call t t2 clear in
     let now : Listed2 k k2 t t2 (after2 call (list k t) (list k2 t2)) (row_of2 k k2 call t t2) (done2 k k2 t t2 (after2 call (list k t) (list k2 t2)) (row_of2 k k2 call t t2)) =
-    record { first = relay-after k t _ _ left.first; second = relay-after k2 t2 _ _ left.second; value = refl; moves = refl; cursor = refl } in
+    record { first = relay_after k t _ _ left.first; second = relay_after k2 t2 _ _ left.second; value = refl; moves = refl; cursor = refl } in
     rw (promised, (two_settled k k2 call t t2).otherwise clear) now

@@ -14,7 +14,7 @@ use Rattle.slots.specs.Layout.{Kind, ring, vector, place, slot_of}
 use Rattle.slots.specs.Moves.{moved, inserted, removed, swapped, elsewhere}
 use Rattle.slots.proofs.Words.{below?, same?}
 use Rattle.slots.proofs.Placing.{placing, one_slot, slot_inside, slot_back, slot_on}
-use Rattle.slots.proofs.Moves.{moved_each, tally-before, tally_from, tally_past, insert_low_each, insert_high_each, remove_low_each, remove_high_each}
+use Rattle.slots.proofs.Moves.{moved_each, tally_before, tally_from, tally_past, insert_low_each, insert_high_each, remove_low_each, remove_high_each}
 use Rattle.slots.proofs.Moves.{moved_stay, moved_kept, moved_none, moved_replaced, swap_moves_none, swap_moves_one, removed_here}
 use Rattle.table.specs.Tray.{Tray, cap, list, valid, invalid, nowhere}
 use Rattle.table.specs.Calls.{Call, push, push_front, pop, pop_front, insert, remove, swap_remove, write, truncate, resize, clear, extend, look, has}
@@ -68,10 +68,10 @@ module _ (t : Tray) (ok : invalid ring t ≡ false) where
 
   pub insert_low : (i : ℕ) → i ≤ t.len → t.len < cap t
       → moved (slot_of (cap t) t.head) (slot_of (cap t) (head_back (cap t) t.head)) (inserted i) t.len ≡ i
-  insert_low i h room = moved_each _ _ _ t.len _ (insert_each_low i h room) ∙ tally-before t.len i h
+  insert_low i h room = moved_each _ _ _ t.len _ (insert_each_low i h room) ∙ tally_before t.len i h
 
   pub remove_low : (i : ℕ) → i < t.len → moved (slot_of (cap t) t.head) (slot_of (cap t) (head_on (cap t) t.head)) (removed i) t.len ≡ i
-  remove_low i h = moved_each _ _ _ t.len _ (remove_each_low i h) ∙ tally-before t.len i (omega arith)
+  remove_low i h = moved_each _ _ _ t.len _ (remove_each_low i h) ∙ tally_before t.len i (omega arith)
 
   -- from the row's head, on whichever side it is
   insert_moved : (i x : ℕ) → i ≤ t.len → t.len < cap t

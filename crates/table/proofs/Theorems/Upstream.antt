@@ -187,11 +187,11 @@ module _ (k : Kind) (t : Tray) (o : Outcome) where
 
 -- A VALID CONTAINER: which number, and what is never refused
 module _ (k : Kind) (t : Tray) (o : Outcome) (ok : invalid k t ≡ false) where
-  pub len-answers : o ≡ does k (look len) t → o.number ≡ 0
-  len-answers promised = numbered k (look len) t o promised ok
+  pub len_answers : o ≡ does k (look len) t → o.number ≡ 0
+  len_answers promised = numbered k (look len) t o promised ok
 
-  pub len-value : o ≡ does k (look len) t → o.value ≡ length (list k t)
-  len-value promised = rw (many k t) (done_value k (look len) t o promised (len-answers promised))
+  pub len_value : o ≡ does k (look len) t → o.value ≡ length (list k t)
+  len_value promised = rw (many k t) (done_value k (look len) t o promised (len_answers promised))
 
   pub is_empty_answers : o ≡ does k (look is_empty) t → o.number ≡ 0
   is_empty_answers promised = numbered k (look is_empty) t o promised ok

@@ -1,6 +1,6 @@
 -- `put_len_total` meets its promise: the pieces, one behind another.
 use borrow.Author.Rules.{rules}
-use Rattle.show.proofs.Saying.{len-total-wrote}
+use Rattle.show.proofs.Saying.{len_total_wrote}
 use Rattle.show.proofs.says.put_len_total.Statement.{statement}
 use Rattle.show.proofs.says.put_len_total.Tie as tie
 
@@ -15,4 +15,4 @@ put_len_total_spec =
     (λ c. search rules)
     (λ c κs. search rules)
     (λ c. search rules)
-    (λ c. search (len-total-wrote, rules)))
+    (λ c. search (len_total_wrote, rules)))

@@ -1,6 +1,6 @@
 -- `ring_read` meets its promise: the refusals in their order, then the state, every slot and the total.
 use borrow.Author.Rules.{rules}
-use Rattle.stored.proofs.Taking.{lines_read, lines_long, ring_over, ring_other, ring_room, len-fits, out_few, ring_head_fits, ring_done}
+use Rattle.stored.proofs.Taking.{lines_read, lines_long, ring_over, ring_other, ring_room, len_fits, out_few, ring_head_fits, ring_done}
 use Rattle.stored.proofs.readers.ring_read.Statement.{statement}
 use Rattle.stored.proofs.readers.ring_read.Tie as tie
 
@@ -19,7 +19,7 @@ ring_read_spec =
     (λ c. search ring_room)
     (λ c κs. search rules)
     (λ c κs. search (lines_read, lines_long))
-    (λ c κs. search (len-fits, out_few, ring_head_fits))
+    (λ c κs. search (len_fits, out_few, ring_head_fits))
     (λ c κs. search rules)
     (λ c. search rules)
     (λ c.

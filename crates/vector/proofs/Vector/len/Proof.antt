@@ -1,7 +1,7 @@
 -- `Vector::len` meets its promise: nothing is stored, and the length is the list's.
 use borrow.Author.Rules.{rules}
 use Rattle.table.specs.Does.{does}
-use Rattle.table.proofs.Laws.Looks.{len-done}
+use Rattle.table.proofs.Laws.Looks.{len_done}
 use Rattle.vector.proofs.Told.{refusals, stays}
 use Rattle.vector.proofs.Vector.len.Statement.{statement}
 use Rattle.vector.proofs.Vector.len.Tie as tie
@@ -16,4 +16,4 @@ len_spec =
     (λ c. search refusals)
     (λ c κs. search rules)
     (λ c κs. search rules)
-    (λ c. search (len-done, stays)))
+    (λ c. search (len_done, stays)))

@@ -13,8 +13,8 @@ use Rattle.lines.specs.contracts.line_from as line_from·fn
 use Rattle.lines.proofs.line_from.Reads as line_from·reads
 use Rattle.lines.specs.contracts.is_number as is_number·fn
 use Rattle.lines.proofs.is_number.Reads as is_number·reads
-use Rattle.lines.specs.contracts.number_of as number_of_law·fn
-use Rattle.lines.proofs.number_of.Reads as number_of_law·reads
+use Rattle.lines.specs.contracts.number_of as number_of·fn
+use Rattle.lines.proofs.number_of.Reads as number_of·reads
 
 -- a are the arguments, r and r' are results, and e and e' the arguments as they are at the return
 module _ (κs : Lfts 1) where
@@ -31,8 +31,8 @@ module _ (κs : Lfts 0) where
       → is_number·reads.Learnt κs a r e → is_number·reads.Learnt κs a r' e' → r ≡ r'
   is_number_once a r r' e e' p q = p ∙ sym q
 
-  pub number_of_once : (a : ArgsD number_of_law·fn.signature κs) (r r' : ResD number_of_law·fn.signature κs) (e e' : AtExit number_of_law·fn.ended κs)
-      → number_of_law·reads.Learnt κs a r e → number_of_law·reads.Learnt κs a r' e' → r ≡ r'
+  pub number_of_once : (a : ArgsD number_of·fn.signature κs) (r r' : ResD number_of·fn.signature κs) (e e' : AtExit number_of·fn.ended κs)
+      → number_of·reads.Learnt κs a r e → number_of·reads.Learnt κs a r' e' → r ≡ r'
   number_of_once a r r' e e' p q = p ∙ sym q
 
 -- `next_line` takes a reader, which holds a reference, and of such a function no `Learnt` is made: this is its `ensures`, word by word

@@ -10,6 +10,7 @@ use Rattle.table.proofs.Theorems.Unique.{one_answer}
 use Rattle.vector.specs.declared.Vector.{Vector}
 use Rattle.vector.specs.declared.Answer.{Answer}
 use Rattle.vector.specs.Seen.{seen, Meets, Makes, state}
+use denote.MutBor.{as_bor}
 use Rattle.table.proofs.Laws.Lending.{one_part}
 use Rattle.vector.proofs.Vector as fns
 use Rattle.vector.specs.contracts.Vector as fns·promise
@@ -108,10 +109,10 @@ module _ (κs : Lfts 1) where
   deref_once a r r' e e' = one_part _ _ _ r r'
 
   pub as_mut_slice_once : Twice fns·promise.as_mut_slice.ended κs (fns.as_mut_slice.Reads.Learnt κs) (λ r e r' e'. (r.ref_ptr ≡ r'.ref_ptr) × (r.now ≡ r'.now))
-  as_mut_slice_once a r r' e e' = one_part _ _ _ r r'
+  as_mut_slice_once a r r' e e' = one_part _ _ _ (as_bor r) (as_bor r')
 
   pub deref_mut_once : Twice fns·promise.deref_mut.ended κs (fns.deref_mut.Reads.Learnt κs) (λ r e r' e'. (r.ref_ptr ≡ r'.ref_ptr) × (r.now ≡ r'.now))
-  deref_mut_once a r r' e e' = one_part _ _ _ r r'
+  deref_mut_once a r r' e e' = one_part _ _ _ (as_bor r) (as_bor r')
 
 module _ (κs : Lfts 2) where
   pub extend_from_slice_once : Twice fns·promise.extend_from_slice.ended κs (fns.extend_from_slice.Reads.Learnt κs) (λ r e r' e'. (r ≡ r') × (e.1.0.now ≡ e'.1.0.now))

@@ -8,6 +8,7 @@ use mathlib.Core.Logic.{◌⊎◌}
 use lib.ListN.{length, get_or, take}
 use contract.Lifetimes.{Lfts}
 use denote.Ref.{Bor}
+use denote.MutBor.{MutBor}
 use denote.Triple.Clauses.{AtExit}
 use Rattle.slots.specs.Lists.{update, insert_at, remove_at}
 use Rattle.slots.specs.Layout.{vector}
@@ -44,7 +45,7 @@ module _ (κs : Lfts 1) (s : Bor (List ℕ)) (k : ℕ) (r : Answer) (e : AtExit 
   pub with_capacity_answers : length s.now ≤ 4096 → IfHolds r.number (length s.now) k
   with_capacity_answers few = law.with_capacity_answers vector _ _ few _ learnt.row
 
-module _ (κs : Lfts 1) (s : Bor (List ℕ)) (k x : ℕ) (r : Answer) (e : AtExit promise.from_elem.ended κs) (learnt : fn.from_elem.Reads.Learnt κs (s, (k, (x, tt))) r e) where
+module _ (κs : Lfts 1) (s : MutBor (List ℕ)) (k x : ℕ) (r : Answer) (e : AtExit promise.from_elem.ended κs) (learnt : fn.from_elem.Reads.Learnt κs (s, (k, (x, tt))) r e) where
   pub from_elem_length : r.number ≡ 0 → length (view r.vector e.0.now) ≡ k
   from_elem_length = law.from_elem_length vector _ _ _ _ learnt.row
 
@@ -100,7 +101,7 @@ module _ (κs : Lfts 1) (v : Vector) (s : Bor (List ℕ)) (a b : ℕ) (r : Answe
   pub ask_range_answers : Valid v s.now → Says r.number 0 ((a ≤ b) × (b ≤ length (view v s.now))) ⊎ Says r.number 3 (Astray a b (length (view v s.now)))
   ask_range_answers ok = law.range_answers _ _ ok _ _ learnt.row
 
-module _ (κs : Lfts 1) (v : Vector) (s : Bor (List ℕ)) (i x : ℕ) (r : Answer) (e : AtExit promise.write.ended κs) (learnt : fn.write.Reads.Learnt κs (v, (s, (i, (x, tt)))) r e) where
+module _ (κs : Lfts 1) (v : Vector) (s : MutBor (List ℕ)) (i x : ℕ) (r : Answer) (e : AtExit promise.write.ended κs) (learnt : fn.write.Reads.Learnt κs (v, (s, (i, (x, tt)))) r e) where
   pub write_value : r.number ≡ 0 → r.value ≡ get_or (view v s.now) i 0
   write_value = law.write_value vector _ _ _ _ learnt.row
 
@@ -113,14 +114,14 @@ module _ (κs : Lfts 1) (v : Vector) (s : Bor (List ℕ)) (i x : ℕ) (r : Answe
   pub write_answers : Valid v s.now → IfInside r.number (length (view v s.now)) i
   write_answers ok = law.write_answers vector _ _ ok _ _ learnt.row
 
-module _ (κs : Lfts 1) (v : Vector) (s : Bor (List ℕ)) (x : ℕ) (r : Answer) (e : AtExit promise.push.ended κs) (learnt : fn.push.Reads.Learnt κs (v, (s, (x, tt))) r e) where
+module _ (κs : Lfts 1) (v : Vector) (s : MutBor (List ℕ)) (x : ℕ) (r : Answer) (e : AtExit promise.push.ended κs) (learnt : fn.push.Reads.Learnt κs (v, (s, (x, tt))) r e) where
   pub push_list : r.number ≡ 0 → view r.vector e.1.0.now ≡ view v s.now ++ (x ∷ [])
   push_list = law.push_list vector _ _ _ learnt.row
 
   pub push_answers : Valid v s.now → IfFree r.number (length s.now) (length (view v s.now))
   push_answers ok = law.push_answers vector _ _ ok _ learnt.row
 
-module _ (κs : Lfts 1) (v : Vector) (s : Bor (List ℕ)) (r : Answer) (e : AtExit promise.pop.ended κs) (learnt : fn.pop.Reads.Learnt κs (v, (s, tt)) r e) where
+module _ (κs : Lfts 1) (v : Vector) (s : MutBor (List ℕ)) (r : Answer) (e : AtExit promise.pop.ended κs) (learnt : fn.pop.Reads.Learnt κs (v, (s, tt)) r e) where
   pub pop_answers : Valid v s.now → IfSome r.number (length (view v s.now))
   pop_answers ok = law.pop_answers vector _ _ ok learnt.row
 
@@ -131,14 +132,14 @@ module _ (κs : Lfts 1) (v : Vector) (s : Bor (List ℕ)) (r : Answer) (e : AtEx
   pub pop_none : Valid v s.now → length (view v s.now) ≡ 0 → (r.number ≡ 4) × (view r.vector e.1.0.now ≡ view v s.now)
   pop_none ok = law.pop_none vector _ _ ok learnt.row
 
-module _ (κs : Lfts 1) (v : Vector) (s : Bor (List ℕ)) (i x : ℕ) (r : Answer) (e : AtExit promise.insert.ended κs) (learnt : fn.insert.Reads.Learnt κs (v, (s, (i, (x, tt)))) r e) where
+module _ (κs : Lfts 1) (v : Vector) (s : MutBor (List ℕ)) (i x : ℕ) (r : Answer) (e : AtExit promise.insert.ended κs) (learnt : fn.insert.Reads.Learnt κs (v, (s, (i, (x, tt)))) r e) where
   pub insert_list : r.number ≡ 0 → view r.vector e.1.0.now ≡ insert_at (view v s.now) i x
   insert_list = law.insert_list vector _ _ _ _ learnt.row
 
   pub insert_answers : Valid v s.now → IfInserts r.number (length s.now) (length (view v s.now)) i
   insert_answers ok = law.insert_answers vector _ _ ok _ _ learnt.row
 
-module _ (κs : Lfts 1) (v : Vector) (s : Bor (List ℕ)) (i : ℕ) (r : Answer) (e : AtExit promise.remove.ended κs) (learnt : fn.remove.Reads.Learnt κs (v, (s, (i, tt))) r e) where
+module _ (κs : Lfts 1) (v : Vector) (s : MutBor (List ℕ)) (i : ℕ) (r : Answer) (e : AtExit promise.remove.ended κs) (learnt : fn.remove.Reads.Learnt κs (v, (s, (i, tt))) r e) where
   pub remove_value : r.number ≡ 0 → r.value ≡ get_or (view v s.now) i 0
   remove_value = law.remove_value vector _ _ _ learnt.row
 
@@ -148,7 +149,7 @@ module _ (κs : Lfts 1) (v : Vector) (s : Bor (List ℕ)) (i : ℕ) (r : Answer)
   pub remove_answers : Valid v s.now → IfInside r.number (length (view v s.now)) i
   remove_answers ok = law.remove_answers vector _ _ ok _ learnt.row
 
-module _ (κs : Lfts 1) (v : Vector) (s : Bor (List ℕ)) (i : ℕ) (r : Answer) (e : AtExit promise.swap_remove.ended κs) (learnt : fn.swap_remove.Reads.Learnt κs (v, (s, (i, tt))) r e) where
+module _ (κs : Lfts 1) (v : Vector) (s : MutBor (List ℕ)) (i : ℕ) (r : Answer) (e : AtExit promise.swap_remove.ended κs) (learnt : fn.swap_remove.Reads.Learnt κs (v, (s, (i, tt))) r e) where
   pub swap_remove_value : r.number ≡ 0 → r.value ≡ get_or (view v s.now) i 0
   swap_remove_value = law.swap_remove_value vector _ _ _ learnt.row
 
@@ -158,7 +159,7 @@ module _ (κs : Lfts 1) (v : Vector) (s : Bor (List ℕ)) (i : ℕ) (r : Answer)
   pub swap_remove_answers : Valid v s.now → IfInside r.number (length (view v s.now)) i
   swap_remove_answers ok = law.swap_remove_answers vector _ _ ok _ learnt.row
 
-module _ (κs : Lfts 1) (v : Vector) (s : Bor (List ℕ)) (k : ℕ) (r : Answer) (e : AtExit promise.truncate.ended κs) (learnt : fn.truncate.Reads.Learnt κs (v, (s, (k, tt))) r e) where
+module _ (κs : Lfts 1) (v : Vector) (s : MutBor (List ℕ)) (k : ℕ) (r : Answer) (e : AtExit promise.truncate.ended κs) (learnt : fn.truncate.Reads.Learnt κs (v, (s, (k, tt))) r e) where
   pub truncate_list : Valid v s.now → view r.vector e.1.0.now ≡ take k (view v s.now)
   truncate_list ok = law.truncate_list vector _ _ ok _ learnt.row
 
@@ -168,7 +169,7 @@ module _ (κs : Lfts 1) (v : Vector) (s : Bor (List ℕ)) (k : ℕ) (r : Answer)
   pub truncate_answers : Valid v s.now → r.number ≡ 0
   truncate_answers ok = law.truncate_answers vector _ _ ok _ learnt.row
 
-module _ (κs : Lfts 1) (v : Vector) (s : Bor (List ℕ)) (k x : ℕ) (r : Answer) (e : AtExit promise.resize.ended κs) (learnt : fn.resize.Reads.Learnt κs (v, (s, (k, (x, tt)))) r e) where
+module _ (κs : Lfts 1) (v : Vector) (s : MutBor (List ℕ)) (k x : ℕ) (r : Answer) (e : AtExit promise.resize.ended κs) (learnt : fn.resize.Reads.Learnt κs (v, (s, (k, (x, tt)))) r e) where
   pub resize_list : Valid v s.now → k ≤ length (view v s.now) → view r.vector e.1.0.now ≡ take k (view v s.now)
   resize_list ok = law.resize_list vector _ _ ok _ _ learnt.row
 
@@ -184,14 +185,14 @@ module _ (κs : Lfts 1) (v : Vector) (s : Bor (List ℕ)) (k x : ℕ) (r : Answe
   pub resize_answers : Valid v s.now → IfHolds r.number (length s.now) k
   resize_answers ok = law.resize_answers vector _ _ ok _ _ learnt.row
 
-module _ (κs : Lfts 1) (v : Vector) (s : Bor (List ℕ)) (r : Answer) (e : AtExit promise.clear.ended κs) (learnt : fn.clear.Reads.Learnt κs (v, (s, tt)) r e) where
+module _ (κs : Lfts 1) (v : Vector) (s : MutBor (List ℕ)) (r : Answer) (e : AtExit promise.clear.ended κs) (learnt : fn.clear.Reads.Learnt κs (v, (s, tt)) r e) where
   pub clear_list : Valid v s.now → view r.vector e.1.0.now ≡ []
   clear_list ok = law.clear_list vector _ _ ok learnt.row
 
   pub clear_answers : Valid v s.now → r.number ≡ 0
   clear_answers ok = law.clear_answers vector _ _ ok learnt.row
 
-module _ (κs : Lfts 2) (v : Vector) (s more : Bor (List ℕ)) (r : Answer) (e : AtExit promise.extend_from_slice.ended κs) (learnt : fn.extend_from_slice.Reads.Learnt κs (v, (s, (more, tt))) r e) where
+module _ (κs : Lfts 2) (v : Vector) (s : MutBor (List ℕ)) (more : Bor (List ℕ)) (r : Answer) (e : AtExit promise.extend_from_slice.ended κs) (learnt : fn.extend_from_slice.Reads.Learnt κs (v, (s, (more, tt))) r e) where
   pub extend_from_slice_length : r.number ≡ 0 → length (view r.vector e.1.0.now) ≡ length (view v s.now) + length more.now
   extend_from_slice_length = law.extend_length vector _ _ _ learnt.row
 

@@ -7,6 +7,7 @@ use native.Mathlib.Omega.{arith}
 use lib.ListN.{length, take, drop}
 use contract.Lifetimes.{Lfts}
 use denote.Ref.{Bor}
+use denote.MutBor.{MutBor}
 use denote.Triple.Clauses.{AtExit}
 use Rattle.slots.specs.Layout.{vector}
 use Rattle.table.specs.Numbers.{Astray}
@@ -29,6 +30,7 @@ module _ (κs : Lfts 1) (v : Vector) (s r : Bor (List ℕ)) where
   pub deref_view : (e : AtExit promise.deref.ended κs) → fn.deref.Reads.Learnt κs (v, (s, tt)) r e → Valid v s.now → r.now ≡ view v s.now
   deref_view e learnt ok = learnt.holds ∙ part_all (tray v s.now) ok
 
+module _ (κs : Lfts 1) (v : Vector) (s r : MutBor (List ℕ)) where
   pub as_mut_slice_view : (e : AtExit promise.as_mut_slice.ended κs) → fn.as_mut_slice.Reads.Learnt κs (v, (s, tt)) r e → Valid v s.now → r.now ≡ view v s.now
   as_mut_slice_view e learnt ok = learnt.holds ∙ part_all (tray v s.now) ok
 

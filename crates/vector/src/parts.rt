@@ -3,6 +3,7 @@ ghost use Rattle.runs.specs.Width.{bytes};
 ghost use Rattle.table.specs.Parts.{lends, lends_all};
 ghost use Rattle.table.specs.Lent.{Lent};
 ghost use Rattle.vector.specs.Seen.{tray};
+ghost use denote.MutBor.{as_bor};
 
 use super::Vector;
 
@@ -43,7 +44,7 @@ impl Vector {
 
     // For writing: slots 0 to n and no more. What the slots hold once it is given back no promise can name (docs/EXCEPTIONS.md).
     pub fn as_mut_slice(self, slots: &mut [u32]) -> &mut [u32]
-        ensures { Lent bytes (lends_all (tray self slots.old)) slots.entry result }
+        ensures { Lent bytes (lends_all (tray self slots.old)) (as_bor slots.entry) (as_bor result) }
     {
         let cap = slots.len();
         let len = self.len;
@@ -54,7 +55,7 @@ impl Vector {
     }
 
     pub fn deref_mut(self, slots: &mut [u32]) -> &mut [u32]
-        ensures { Lent bytes (lends_all (tray self slots.old)) slots.entry result }
+        ensures { Lent bytes (lends_all (tray self slots.old)) (as_bor slots.entry) (as_bor result) }
     {
         self.as_mut_slice(slots)
     }

@@ -5,6 +5,7 @@ use Prim.Native.Nat.{ℕ}
 use mathlib.Core.List.{List}
 use contract.Lifetimes.{Lfts}
 use denote.Ref.{Bor}
+use denote.MutBor.{MutBor}
 use denote.Triple.Clauses.{AtExit}
 use Rattle.slots.specs.Layout.{ring, vector}
 use Rattle.table.proofs.Theorems.UpstreamWalks as law
@@ -69,7 +70,7 @@ module _ (κs : Lfts 1) (v : Vector) (s : Bor (List ℕ)) where
       → PeeksBack vector (vectors.tray v s.now) (cursor u) m (seen r (vectors.tray v s.now))
   vector_peek_back u m r e = law.back_peeks vector _ _ _ m
 
-module _ (κs : Lfts 2) (u : Cursor) (s z : Bor (List ℕ)) (w : Vector) (r : Taken) where
+module _ (κs : Lfts 2) (u : Cursor) (s : Bor (List ℕ)) (z : MutBor (List ℕ)) (w : Vector) (r : Taken) where
   pub ring_from_iter : (v : Ring) (e : AtExit promise.ring_from_iter.ended κs) → fn.ring_from_iter.Reads.Learnt κs (u, (v, (s, (w, (z, tt))))) r e
       → Fills ring vector (rings.tray v s.now) (vectors.tray w z.now) (cursor u) (seen_into r (rings.tray v s.now) e.1.1.1.1.0.now)
   ring_from_iter v e learnt = law.from_iter_fills ring vector _ _ _ _ learnt.row

@@ -11,14 +11,14 @@ use runs::total;
 use runs::total::Total;
 use vector::Vector;
 
-#[derive(Drop)]
+#[derive(Clone, Copy)]
 pub struct Cursor {
     pub front: usize,
     pub back: usize,
 }
 
 // What a step or a peek answers: the entry with the cursor afterwards, or a refusal with the cursor given.
-#[derive(Drop)]
+#[derive(Clone, Copy)]
 pub enum Step {
     Entry(u32, Cursor),
     // The container is invalid: 1.
@@ -30,7 +30,7 @@ pub enum Step {
 }
 
 // What iter and into_iter answer; the cursor of a refused one is 0, 0.
-#[derive(Drop)]
+#[derive(Clone, Copy)]
 pub struct Begun {
     pub number: u8,
     pub slot: usize,
@@ -38,7 +38,7 @@ pub struct Begun {
 }
 
 // What from_iter answers: the cursor afterwards, and T.
-#[derive(Drop)]
+#[derive(Clone, Copy)]
 pub struct Taken {
     pub number: u8,
     pub slot: usize,

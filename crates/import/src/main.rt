@@ -13,21 +13,21 @@ use libc::{STDERR_FILENO, STDOUT_FILENO};
 const ENOUGH: u64 = 18446744073709420543; // 2^64 − 131073
 
 // A line and a byte of it, both from 1.
-#[derive(Drop)]
+#[derive(Clone, Copy)]
 struct Spot {
     line: u64,
     byte: u64,
 }
 
 // How many bytes are collected for the output, and whether it took those before them.
-#[derive(Drop)]
+#[derive(Clone, Copy)]
 struct Said {
     at: usize,
     heard: bool,
 }
 
 // What was counted: bytes passed, line and byte of the next one, records, fields of the first, and records with another number of fields.
-#[derive(Drop)]
+#[derive(Clone, Copy)]
 struct Sheet {
     passed: u64,
     line: u64,
@@ -38,7 +38,7 @@ struct Sheet {
 }
 
 // What a text began with: how many bytes are done with, none if the record is not settled, or refused.
-#[derive(Drop)]
+#[derive(Clone, Copy)]
 struct Taken {
     next: usize,
     refused: bool,
@@ -47,14 +47,14 @@ struct Taken {
 }
 
 // What one read gave: how many bytes, and whether it failed.
-#[derive(Drop)]
+#[derive(Clone, Copy)]
 struct Got {
     count: usize,
     failed: bool,
 }
 
 // The window once it is filled: how many bytes it holds, whether the input ended with them, and whether it failed there.
-#[derive(Drop)]
+#[derive(Clone, Copy)]
 struct Filled {
     held: usize,
     ended: bool,
@@ -62,7 +62,7 @@ struct Filled {
 }
 
 // Between two windows: what the window holds, what was taken from its front, and how it ended, 0 while it goes on.
-#[derive(Drop)]
+#[derive(Clone, Copy)]
 struct Stand {
     filled: Filled,
     taken: Taken,

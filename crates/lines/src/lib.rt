@@ -3,28 +3,28 @@ ghost use Rattle.std.specs.Prelude.{◌≡◌};
 ghost use Rattle.lines.specs.Line.{line_at, is_number, number_in};
 
 // A lent text, and the place in it from which the next line is read.
-#[derive(Drop)]
+#[derive(Clone, Copy)]
 pub struct Lines<'a> {
     pub text: &'a [u8],
     pub at: usize,
 }
 
 // What stands at a place: a line, which says a number, or something else.
-#[derive(Drop)]
+#[derive(Clone, Copy)]
 pub enum Line {
     Number(u64),
     Other,
 }
 
 // What was found at a place, and where the next line begins.
-#[derive(Drop)]
+#[derive(Clone, Copy)]
 pub struct Step {
     pub line: Line,
     pub next: usize,
 }
 
 // What was found, and the reader moved on past it.
-#[derive(Drop)]
+#[derive(Clone, Copy)]
 pub struct Taken<'a> {
     pub rest: Lines<'a>,
     pub line: Line,

@@ -4,6 +4,7 @@ use mathlib.Core.List.{List}
 use Prim.Native.Nat.{ℕ}
 use contract.Lifetimes.{Lfts}
 use denote.Ref.{Bor}
+use denote.MutBor.{MutBor}
 use denote.Triple.Clauses.{AtExit}
 use Rattle.slots.specs.Layout.{ring}
 use Rattle.table.specs.Calls.{Call2}
@@ -27,12 +28,13 @@ calls_home call v w s z s' z' r meets zero =
     record { first = home.0; second = home.1 }
 
 -- In what follows v and s are the ring named first and its slots, w and z are T and its slots, r is the result, and e the arguments as they are at the return.
-module _ (κs : Lfts 2) (v w : Ring) (s z : Bor (List ℕ)) (r : Both) where
+module _ (κs : Lfts 2) (v w : Ring) (s z : MutBor (List ℕ)) (r : Both) where
   pub append_home : (e : AtExit promise.append.ended κs) → fn.append.Reads.Learnt κs (v, (s, (w, (z, tt)))) r e → r.number ≡ 0 → BothHome r
   append_home e learnt = calls_home _ _ _ _ _ _ _ _ learnt
 
   pub split_off_home : (at : ℕ) (e : AtExit promise.split_off.ended κs) → fn.split_off.Reads.Learnt κs (v, (s, (at, (w, (z, tt))))) r e → r.number ≡ 0 → BothHome r
   split_off_home at e learnt = calls_home _ _ _ _ _ _ _ _ learnt
 
+module _ (κs : Lfts 2) (v w : Ring) (s : Bor (List ℕ)) (z : MutBor (List ℕ)) (r : Both) where
   pub clone_home : (e : AtExit promise.clone.ended κs) → fn.clone.Reads.Learnt κs (v, (s, (w, (z, tt)))) r e → r.number ≡ 0 → BothHome r
   clone_home e learnt = calls_home _ _ _ _ _ _ _ _ learnt

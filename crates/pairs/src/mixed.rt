@@ -7,7 +7,7 @@ use ring::Ring;
 use vector::Vector;
 
 // The answer of a call on two: the ring named first, and the vector T.
-#[derive(Drop)]
+#[derive(Clone, Copy)]
 pub struct Both {
     pub number: u8,
     pub value: u32,

@@ -16,7 +16,7 @@ use runs::total;
 use runs::total::Total;
 
 // The answer of a call on two: the container named first, and T.
-#[derive(Drop)]
+#[derive(Clone, Copy)]
 pub struct Both {
     pub number: u8,
     pub value: u32,

@@ -13,7 +13,7 @@ use pairs::vectors::Both;
 use vector::Vector;
 
 // The field at a place: where its bytes start and end, and the position behind it.
-#[derive(Drop)]
+#[derive(Clone, Copy)]
 enum Found {
     Field {
         start: usize,
@@ -24,7 +24,7 @@ enum Found {
 }
 
 // What stands behind a field: a comma; the end of the record, with where the next one starts; a byte that may not.
-#[derive(Drop)]
+#[derive(Clone, Copy)]
 enum Stop {
     Comma,
     End(usize),
@@ -33,7 +33,7 @@ enum Stop {
 
 // What a text comes to: 0 with where the next record starts, 9 with the byte that may not stand there, 10 with the quote that is never closed;
 // and the fields up to there.
-#[derive(Drop)]
+#[derive(Clone, Copy)]
 struct Verdict {
     number: u8,
     count: usize,

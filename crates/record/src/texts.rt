@@ -9,7 +9,7 @@ ghost use Rattle.record.specs.Unquoted.{Unquotes};
 use super::{pass, stands};
 
 // An answer on a text alone.
-#[derive(Drop)]
+#[derive(Clone, Copy)]
 pub struct Told {
     pub number: u8,
     pub value: u32,

@@ -3,7 +3,7 @@ use crate::desks::Desk;
 use cursors::{Begun, Cursor, Step, Taken};
 
 // What a call answers, the slot that it reports, how many bytes are printed after the slots, and the desk afterwards.
-#[derive(Drop)]
+#[derive(Clone, Copy)]
 pub(crate) struct Did {
     pub(crate) number: u8,
     pub(crate) value: u32,

@@ -9,7 +9,7 @@ use vector::Vector;
 
 // How many of the lent slots each container has and how many of the lent bytes the text, the containers with their totals, and the cursor. A vector is its
 // length and its total, with head 0.
-#[derive(Drop)]
+#[derive(Clone, Copy)]
 pub(crate) struct Desk {
     pub(crate) cap: usize,
     pub(crate) cap2: usize,

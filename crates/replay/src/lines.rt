@@ -3,7 +3,7 @@ ghost use Rattle.std.specs.Prelude.{◌≡◌, true};
 ghost use Rattle.replay.specs.Lines.{is_known, takes_entry, is_beyond, reaches, is_taken, takes};
 
 // An operation and its numbers, of which x is b where that is an entry.
-#[derive(Drop)]
+#[derive(Clone, Copy)]
 pub(crate) struct Asked {
     pub(crate) op: u64,
     pub(crate) a: usize,
@@ -12,7 +12,7 @@ pub(crate) struct Asked {
 }
 
 // What a line that is taken asks, or why a line is not.
-#[derive(Drop)]
+#[derive(Clone, Copy)]
 pub(crate) enum Verdict {
     Placing(Asked),
     Call(Asked),

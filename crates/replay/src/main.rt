@@ -16,7 +16,7 @@ use libc::{STDIN_FILENO, STDOUT_FILENO};
 use lines::{Asked, Verdict};
 
 // Between two bytes: the desk, how many bytes of a line are kept, and whether there is more to read.
-#[derive(Drop)]
+#[derive(Clone, Copy)]
 struct Begun {
     desk: Desk,
     count: usize,

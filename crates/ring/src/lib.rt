@@ -14,7 +14,7 @@ use runs::total;
 use runs::total::Total;
 
 // The state: the slot of position 0, how many entries there are, and their total, which is what they add up to unless a wrong one was given.
-#[derive(Drop)]
+#[derive(Clone, Copy)]
 pub struct Ring {
     pub head: usize,
     pub len: usize,
@@ -22,7 +22,7 @@ pub struct Ring {
 }
 
 // What a call answers, with the slot of the entry concerned and the state afterwards.
-#[derive(Drop)]
+#[derive(Clone, Copy)]
 pub struct Answer {
     pub number: u8,
     pub value: u32,

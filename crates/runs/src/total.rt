@@ -7,7 +7,7 @@ ghost use Rattle.slots.specs.Total.{total, changed};
 
 use slots::slot;
 
-#[derive(Drop)]
+#[derive(Clone, Copy)]
 pub struct Total {
     pub sum: u64,
 }

@@ -27,7 +27,7 @@ pub(crate) const A_LENGTH: u8 = 9;
 pub(crate) const TEXT_END: u8 = 10;
 
 // Where it stands, line and byte from 1, and what was expected there, by number; all 0 where nothing is at fault.
-#[derive(Drop)]
+#[derive(Clone, Copy)]
 pub(crate) struct Fault {
     pub line: u64,
     pub byte: u64,

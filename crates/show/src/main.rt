@@ -14,7 +14,7 @@ use libc::{STDERR_FILENO, STDIN_FILENO, STDOUT_FILENO};
 use words::put_text;
 
 // How much of the input was read, and whether it failed there.
-#[derive(Drop)]
+#[derive(Clone, Copy)]
 struct Got {
     held: usize,
     failed: bool,

@@ -7,7 +7,7 @@ ghost use Rattle.stored.specs.First.{first_of, begins, judged};
 use lines::line_from;
 
 // The numbers of a first line, and whether it is one.
-#[derive(Drop)]
+#[derive(Clone, Copy)]
 pub(crate) struct First {
     pub line: bool,
     pub kind: usize,
@@ -18,7 +18,7 @@ pub(crate) struct First {
 }
 
 // Whether the text is acceptable, and its first line.
-#[derive(Drop)]
+#[derive(Clone, Copy)]
 pub(crate) struct Judged {
     pub yes: bool,
     pub first: First,

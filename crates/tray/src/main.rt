@@ -7,7 +7,7 @@ use libc::{STDIN_FILENO, STDOUT_FILENO};
 use tray_lines::feeds::{Fed, State};
 
 // After some reads: how many bytes they read in all and the last of them, whether the output took what was written, and where the program stands.
-#[derive(Drop)]
+#[derive(Clone, Copy)]
 struct Went {
     read: u64,
     last: usize,

@@ -12,7 +12,7 @@ use runs::total;
 use vector::Vector;
 
 // A ring with its slots. No line tells a total, so none is kept.
-#[derive(Drop)]
+#[derive(Clone, Copy)]
 pub struct HeldRing {
     pub head: usize,
     pub len: usize,
@@ -20,14 +20,14 @@ pub struct HeldRing {
 }
 
 // A vector with its slots.
-#[derive(Drop)]
+#[derive(Clone, Copy)]
 pub struct HeldVector {
     pub len: usize,
     pub slots: [u32; 4],
 }
 
 // The containers of the program, by their numbers.
-#[derive(Drop)]
+#[derive(Clone, Copy)]
 pub struct Trays {
     pub ring0: HeldRing,
     pub ring1: HeldRing,
@@ -36,7 +36,7 @@ pub struct Trays {
 }
 
 // What a call on a ring did: to that ring, and to the other.
-#[derive(Drop)]
+#[derive(Clone, Copy)]
 pub struct RingDid {
     pub number: u8,
     pub value: u32,
@@ -47,7 +47,7 @@ pub struct RingDid {
 }
 
 // What a call on a vector did: to that vector, and to the other.
-#[derive(Drop)]
+#[derive(Clone, Copy)]
 pub struct VectorDid {
     pub number: u8,
     pub value: u32,
@@ -58,7 +58,7 @@ pub struct VectorDid {
 }
 
 // What is answered, with the slot concerned, and the head and the length of the container afterwards.
-#[derive(Drop)]
+#[derive(Clone, Copy)]
 pub struct Answer {
     pub number: u8,
     pub value: u32,
@@ -69,7 +69,7 @@ pub struct Answer {
 }
 
 // The containers after a call, and its answer.
-#[derive(Drop)]
+#[derive(Clone, Copy)]
 pub struct Acted {
     pub trays: Trays,
     pub answer: Answer,

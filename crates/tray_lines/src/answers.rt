@@ -7,7 +7,7 @@ use crate::acts::{Answer, Trays};
 use crate::lines::Said;
 
 // The containers after a line, and the line that is answered, with its LF.
-#[derive(Drop)]
+#[derive(Clone, Copy)]
 pub struct Told {
     pub trays: Trays,
     pub text: [u8; 27],

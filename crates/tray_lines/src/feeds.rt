@@ -9,7 +9,7 @@ use crate::acts::Trays;
 use crate::answers::Told;
 
 // Where the program stands between two bytes: the containers, and the first 17 bytes of the line begun, which tell that it is too long.
-#[derive(Drop)]
+#[derive(Clone, Copy)]
 pub struct State {
     pub trays: Trays,
     pub line: [u8; 17],
@@ -17,14 +17,14 @@ pub struct State {
 }
 
 // After one byte: the answers reach up to a place of the text.
-#[derive(Drop)]
+#[derive(Clone, Copy)]
 pub struct Step {
     pub state: State,
     pub at: usize,
 }
 
 // After a run of bytes: how many were taken, and how many bytes of answers stand at the start of the text.
-#[derive(Drop)]
+#[derive(Clone, Copy)]
 pub struct Fed {
     pub state: State,
     pub took: usize,
@@ -32,7 +32,7 @@ pub struct Fed {
 }
 
 // After the last byte: how many bytes of an answer stand at the start of the text.
-#[derive(Drop)]
+#[derive(Clone, Copy)]
 pub struct Finish {
     pub trays: Trays,
     pub text: [u8; 27],

@@ -3,7 +3,7 @@ ghost use Rattle.std.specs.Prelude.{◌≡◌};
 ghost use Rattle.tray_lines.specs.Lines.{ring_says, vector_says, call_says, said};
 
 // The operations of a ring, with their arguments.
-#[derive(Drop)]
+#[derive(Clone, Copy)]
 pub enum RingOp {
     PushBack(u32),
     PushFront(u32),
@@ -21,7 +21,7 @@ pub enum RingOp {
 }
 
 // The operations of a vector.
-#[derive(Drop)]
+#[derive(Clone, Copy)]
 pub enum VectorOp {
     Push(u32),
     Pop,
@@ -38,14 +38,14 @@ pub enum VectorOp {
 }
 
 // A call of a ring or of a vector: whether it is the second of its kind, and the operation.
-#[derive(Drop)]
+#[derive(Clone, Copy)]
 pub enum Call {
     Ring(bool, RingOp),
     Vector(bool, VectorOp),
 }
 
 // A line that is no call is garbled, 7, or unknown, 8.
-#[derive(Drop)]
+#[derive(Clone, Copy)]
 pub enum Said {
     Call(Call),
     Garbled,

@@ -11,13 +11,13 @@ ghost use Rattle.vector.specs.Seen.{Meets, state, says, lit};
 use runs::total;
 use runs::total::Total;
 
-#[derive(Drop)]
+#[derive(Clone, Copy)]
 pub struct Vector {
     pub len: usize,
     pub total: Total,
 }
 
-#[derive(Drop)]
+#[derive(Clone, Copy)]
 pub struct Answer {
     pub number: u8,
     pub value: u32,

@@ -60,7 +60,7 @@ module _ (κs : Lfts 0) where
   pub fresh_once : Twice feeds·promise.fresh.ended κs (feeds·fn.fresh.Reads.Learnt κs) (λ r e r' e'. r ≡ r')
   fresh_once a r r' e e' p q = once midway state_of (λ s. refl) _ r r' p q
 
-  pub ended_once : Twice feeds·promise.ended.ended κs (feeds·promise.ended.Reads.Learnt κs) (λ r e r' e'. r ≡ r')
+  pub ended_once : Twice feeds·promise.ended.ended κs (feeds·fn.ended.Reads.Learnt κs) (λ r e r' e'. r ≡ r')
   ended_once a r r' e e' p q = once ended_seen (λ (x : Ends). record { trays = trays_of x.world; text = x.text; count = x.count }) (λ s. refl) _ r r' p q
 
 module _ (κs : Lfts 1) where

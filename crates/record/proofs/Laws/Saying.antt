@@ -91,7 +91,7 @@ all_kept l zeros kept count is counted fits =
 
 -- the sixteen slots that the places are kept in
 abbrev sixteen : List ℕ
-sixteen = replicate 16 0
+sixteen = 0 ∷ 0 ∷ 0 ∷ 0 ∷ 0 ∷ 0 ∷ 0 ∷ 0 ∷ 0 ∷ 0 ∷ 0 ∷ 0 ∷ 0 ∷ 0 ∷ 0 ∷ 0 ∷ []
 
 pub still_sixteen : (l kept : List ℕ) → kept ≡ sets sixteen 0 l → 16 ≡ length kept
 still_sixteen l kept e = sym (ap length e ∙ length-sets sixteen 0 l)

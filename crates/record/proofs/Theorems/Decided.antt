@@ -38,8 +38,8 @@ pub record Used (text : List ℕ) (fields : List (ℕ × ℕ)) (next : ℕ) : Ty
   pub lf_last : final 0 bytes ≡ lf
   pub again : (others : List ℕ) → Reads (bytes ++ others) fields next
 
-pub used : {text : List ℕ} {fields : List (ℕ × ℕ)} {next : ℕ} → ReadsLine text fields next → Used text fields next
-used {fields = fields} (line {to = to} r (crlf {s = s})) =
+used_by : {text : List ℕ} {fields : List (ℕ × ℕ)} {to : ℕ} {t : List ℕ} {next : ℕ} → Fields 0 text fields to t → LineEnds to t next → Used text fields next
+used_by {fields = fields} {to = to} r (crlf {s = s}) =
     let w = (fields_local r).passed in
     let place : to ≡ 0 + length w.bytes = w.place in
     record {
@@ -52,7 +52,7 @@ used {fields = fields} (line {to = to} r (crlf {s = s})) =
       again = λ others. subst (λ (u : List ℕ). Reads u fields (to + 2)) (sym (append_assoc w.bytes (cr ∷ lf ∷ []) others))
           (From.from (w.again (cr ∷ lf ∷ others)) Ends.crlf);
     }
-used {fields = fields} (line {to = to} r (bare_lf {s = s})) =
+used_by {fields = fields} {to = to} r (bare_lf {s = s}) =
     let w = (fields_local r).passed in
     let place : to ≡ 0 + length w.bytes = w.place in
     record {
@@ -66,9 +66,15 @@ used {fields = fields} (line {to = to} r (bare_lf {s = s})) =
           (From.from (w.again (lf ∷ others)) Ends.bare_lf);
     }
 
+pub used : {text : List ℕ} {fields : List (ℕ × ℕ)} {next : ℕ} → ReadsLine text fields next → Used text fields next
+used (line r end) = used_by r end
+
+end_reads : {to : ℕ} {t : List ℕ} {next : ℕ} → LineEnds to t next → Ends to t next
+end_reads crlf = Ends.crlf
+end_reads bare_lf = Ends.bare_lf
+
 pub line_reads : {text : List ℕ} {fields : List (ℕ × ℕ)} {next : ℕ} → ReadsLine text fields next → Reads text fields next
-line_reads (line r crlf) = From.from r Ends.crlf
-line_reads (line r bare_lf) = From.from r Ends.bare_lf
+line_reads (line r end) = From.from r (end_reads end)
 
 -- the byte before the next record
 final_at : (c : ℕ) (s : List ℕ) → final c s ≡ get_or (c ∷ s) (length s) 0
@@ -93,16 +99,19 @@ no_last text [] next e size h x = let z : ◌≡◌ {A = ℕ} 0 lf = sym (ap (λ
 no_last text (b ∷ s) next e size h x =
     h (sym (last_byte (b ∷ s) [] next (sym size) (omega arith)) ∙ (sym (ap (λ (t : List ℕ). get_or t (next - 1) 0) e) ∙ x))
 
-pub ended : {text : List ℕ} {fields : List (ℕ × ℕ)} {next : ℕ} → Reads text fields next → Ended text fields next
-ended (From.from r Ends.crlf) = by_line (line r crlf)
-ended (From.from r Ends.bare_lf) = by_line (line r bare_lf)
-ended {text} {next = next} (From.from r Ends.of_text) =
+ended_by : {text : List ℕ} {fields : List (ℕ × ℕ)} {to : ℕ} {t : List ℕ} {next : ℕ} → Fields 0 text fields to t → Ends to t next → Ended text fields next
+ended_by r Ends.crlf = by_line (line r crlf)
+ended_by r Ends.bare_lf = by_line (line r bare_lf)
+ended_by {text} {to = to} r Ends.of_text =
     let l = fields_local r in
     let w = l.passed in
-    let place : next ≡ 0 + length w.bytes = w.place in
+    let place : to ≡ 0 + length w.bytes = w.place in
     by_text
     (omega (arith, ap length w.whole, length-append w.bytes []))
-    (no_last text w.bytes next w.whole (omega arith) (l.no_lf 0 (λ e. omega arith)))
+    (no_last text w.bytes to w.whole (omega arith) (l.no_lf 0 (λ e. omega arith)))
+
+pub ended : {text : List ℕ} {fields : List (ℕ × ℕ)} {next : ℕ} → Reads text fields next → Ended text fields next
+ended (From.from r end) = ended_by r end
 
 -- The handy test: a line end ended a record exactly if the byte before the next one is an LF.
 pub by_lf : (text : List ℕ) (fields : List (ℕ × ℕ)) (next : ℕ) → Reads text fields next → get_or text (next - 1) 0 ≡ lf

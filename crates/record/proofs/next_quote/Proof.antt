@@ -8,18 +8,18 @@ use Rattle.record.proofs.Laws.Runs.{quote_turn, quote_stop, run_over}
 use Rattle.record.proofs.next_quote.Statement.{statement}
 use Rattle.record.proofs.next_quote.Tie as tie
 
-abbrev invariant_loop : tie.invariant_loop
-invariant_loop text from i₀ i = (i ≤ length text) × (i + run is_quote (drop i text) ≡ from + run is_quote (drop from text))
+abbrev invariant-loop-i : tie.invariant-loop-i
+invariant-loop-i text from i₀ i = (i ≤ length text) × (i + run is_quote (drop i text) ≡ from + run is_quote (drop from text))
 
-abbrev decreases_loop : tie.decreases_loop
-decreases_loop text from i₀ i = length text - i
+abbrev decreases-loop-i : tie.decreases-loop-i
+decreases-loop-i text from i₀ i = length text - i
 
 pub next_quote_spec : {M : Type 1} → statement M
 next_quote_spec =
     tie.close
     (tie.spec
-    invariant_loop
-    decreases_loop
+    invariant-loop-i
+    decreases-loop-i
     (λ c κs. search rules)
     (λ c. search rules)
     (λ c. search rules)

@@ -7,18 +7,18 @@ use Rattle.record.proofs.Laws.Passing.{end_verdict, end_starts, end_ends, bad_ve
 use Rattle.record.proofs.pass.Statement.{statement}
 use Rattle.record.proofs.pass.Tie as tie
 
-abbrev invariant_loop : tie.invariant_loop
-invariant_loop text slots₀ theirs₀ at₀ count₀ slots theirs at count = Passed text slots₀ theirs₀ slots theirs at count
+abbrev invariant-loop-start : tie.invariant-loop-start
+invariant-loop-start text slots₀ theirs₀ at₀ count₀ slots theirs at count = Passed text slots₀ theirs₀ slots theirs at count
 
-abbrev decreases_loop : tie.decreases_loop
-decreases_loop text slots₀ theirs₀ at₀ count₀ slots theirs at count = length text - at
+abbrev decreases-loop-start : tie.decreases-loop-start
+decreases-loop-start text slots₀ theirs₀ at₀ count₀ slots theirs at count = length text - at
 
 pub pass_spec : {M : Type 1} → statement M
 pass_spec =
     tie.close
     (tie.spec
-    invariant_loop
-    decreases_loop
+    invariant-loop-start
+    decreases-loop-start
     (λ c. search (none_passed, rules))
     (λ c κs. search rules)
     (λ c. search rules)

@@ -5,18 +5,18 @@ use Rattle.record.proofs.Laws.Placing.{Placed, placed_none, at_inside, never, pl
 use Rattle.record.proofs.place_all.Statement.{statement}
 use Rattle.record.proofs.place_all.Tie as tie
 
-abbrev invariant_loop : tie.invariant_loop
-invariant_loop text count slots₀ theirs₀ at₀ k₀ slots theirs at k = Placed text slots₀ theirs₀ slots theirs count at k
+abbrev invariant-loop-k : tie.invariant-loop-k
+invariant-loop-k text count slots₀ theirs₀ at₀ k₀ slots theirs at k = Placed text slots₀ theirs₀ slots theirs count at k
 
-abbrev decreases_loop : tie.decreases_loop
-decreases_loop text count slots₀ theirs₀ at₀ k₀ slots theirs at k = count - k
+abbrev decreases-loop-k : tie.decreases-loop-k
+decreases-loop-k text count slots₀ theirs₀ at₀ k₀ slots theirs at k = count - k
 
 pub place_all_spec : {M : Type 1} → statement M
 place_all_spec =
     tie.close
     (tie.spec
-    invariant_loop
-    decreases_loop
+    invariant-loop-k
+    decreases-loop-k
     (λ c. search (placed_none, rules))
     (λ c κs. search (at_inside, rules))
     (λ c. search rules)

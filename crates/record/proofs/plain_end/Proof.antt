@@ -9,18 +9,18 @@ use Rattle.record.proofs.Laws.Runs.{run_turn, run_stop, run_over}
 use Rattle.record.proofs.plain_end.Statement.{statement}
 use Rattle.record.proofs.plain_end.Tie as tie
 
-abbrev invariant_loop : tie.invariant_loop
-invariant_loop text from i₀ i = (i ≤ length text) × (i + run special (drop i text) ≡ from + run special (drop from text))
+abbrev invariant-loop-i : tie.invariant-loop-i
+invariant-loop-i text from i₀ i = (i ≤ length text) × (i + run special (drop i text) ≡ from + run special (drop from text))
 
-abbrev decreases_loop : tie.decreases_loop
-decreases_loop text from i₀ i = length text - i
+abbrev decreases-loop-i : tie.decreases-loop-i
+decreases-loop-i text from i₀ i = length text - i
 
 pub plain_end_spec : {M : Type 1} → statement M
 plain_end_spec =
     tie.close
     (tie.spec
-    invariant_loop
-    decreases_loop
+    invariant-loop-i
+    decreases-loop-i
     (λ c. search rules)
     (λ c. search rules)
     (λ c κs. search rules)

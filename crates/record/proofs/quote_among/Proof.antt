@@ -8,18 +8,18 @@ use Rattle.record.proofs.Laws.Runs.{any_none, any_one, block_all}
 use Rattle.record.proofs.quote_among.Statement.{statement}
 use Rattle.record.proofs.quote_among.Tie as tie
 
-abbrev invariant_loop : tie.invariant_loop
-invariant_loop text at found₀ j₀ found j = (j ≤ 16) × (found ≡ any is_quote (take j (drop at text)))
+abbrev invariant-loop-j : tie.invariant-loop-j
+invariant-loop-j text at found₀ j₀ found j = (j ≤ 16) × (found ≡ any is_quote (take j (drop at text)))
 
-abbrev decreases_loop : tie.decreases_loop
-decreases_loop text at found₀ j₀ found j = 16 - j
+abbrev decreases-loop-j : tie.decreases-loop-j
+decreases-loop-j text at found₀ j₀ found j = 16 - j
 
 pub quote_among_spec : {M : Type 1} → statement M
 quote_among_spec =
     tie.close
     (tie.spec
-    invariant_loop
-    decreases_loop
+    invariant-loop-j
+    decreases-loop-j
     (λ c. search (any_none is_quote, rules))
     (λ c. search rules)
     (λ c. search rules)

@@ -7,18 +7,18 @@ use Rattle.record.proofs.Laws.Runs.{Quoted, quoted_first, quoted_again, quoted_l
 use Rattle.record.proofs.quoted_end.Statement.{statement}
 use Rattle.record.proofs.quoted_end.Tie as tie
 
-abbrev invariant_loop : tie.invariant_loop
-invariant_loop text from i₀ i = Quoted text i (from + body_run (drop from text))
+abbrev invariant-loop-i : tie.invariant-loop-i
+invariant-loop-i text from i₀ i = Quoted text i (from + body_run (drop from text))
 
-abbrev decreases_loop : tie.decreases_loop
-decreases_loop text from i₀ i = length text - i
+abbrev decreases-loop-i : tie.decreases-loop-i
+decreases-loop-i text from i₀ i = length text - i
 
 pub quoted_end_spec : {M : Type 1} → statement M
 quoted_end_spec =
     tie.close
     (tie.spec
-    invariant_loop
-    decreases_loop
+    invariant-loop-i
+    decreases-loop-i
     (λ c κs. search rules)
     (λ c. search (quoted_first, rules))
     (λ c. search rules)

@@ -1,4 +1,5 @@
 -- `read` meets its promise: what is refused early; else the text is judged, and the rest is settled by what it comes to.
+use Rattle.std.proofs.Common.{sym, ◌∙◌}
 use borrow.Author.Rules.{rules}
 use Rattle.record.proofs.Laws.Saying.{early_refused, short, zero_early, still_sixteen, judged_kept}
 use Rattle.record.proofs.read.Statement.{statement}
@@ -14,7 +15,7 @@ read_spec =
     (λ c κs. search (short, rules))
     (λ c. search (still_sixteen, rules))
     (λ c. search (still_sixteen, rules))
-    (λ c κs. (search (zero_early, rules), (search rules, search (judged_kept, short, rules))))
+    (λ c κs. (sym c.if-early-ne0.false ∙ c.refusal-early.ensures, (c.pass-v.ensures.0, judged_kept _ _ _ _ (search (short, rules)) c.pass-v.ensures.0 c.pass-v.ensures.1.0 c.pass-v.ensures.1.1)))
     (λ c. search rules)
     (λ c. search rules)
     (λ c. search rules))

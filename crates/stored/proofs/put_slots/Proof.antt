@@ -9,20 +9,20 @@ use Rattle.stored.proofs.Lines.{slots_turn, slots_end}
 use Rattle.stored.proofs.put_slots.Statement.{statement}
 use Rattle.stored.proofs.put_slots.Tie as tie
 
-abbrev invariant_loop : tie.invariant_loop
-invariant_loop text₀ from slots i₀ at₀ text i at =
+abbrev invariant-loop-i : tie.invariant-loop-i
+invariant-loop-i text₀ from slots i₀ at₀ text i at =
     (i ≤ length slots) × (at ≡ from + 9 * i) × (length text ≡ length text₀)
     × (put text at (slot_lines (drop i slots)) ≡ put text₀ from (slot_lines slots))
 
-abbrev decreases_loop : tie.decreases_loop
-decreases_loop text₀ from slots i₀ at₀ text i at = length slots - i
+abbrev decreases-loop-i : tie.decreases-loop-i
+decreases-loop-i text₀ from slots i₀ at₀ text i at = length slots - i
 
 pub put_slots_spec : {M : Type 1} → statement M
 put_slots_spec =
     tie.close
     (tie.spec
-    invariant_loop
-    decreases_loop
+    invariant-loop-i
+    decreases-loop-i
     (λ c. search rules)
     (λ c. search rules)
     (λ c. search rules)

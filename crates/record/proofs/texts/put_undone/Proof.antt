@@ -6,18 +6,18 @@ use Rattle.record.proofs.Laws.Undoing.{Undoing, none_undone, one_undone, room_le
 use Rattle.record.proofs.texts.put_undone.Statement.{statement}
 use Rattle.record.proofs.texts.put_undone.Tie as tie
 
-abbrev invariant_loop : tie.invariant_loop
-invariant_loop part out₀ at₀ count₀ out at count = Undoing part out₀ out at count
+abbrev invariant-loop-at : tie.invariant-loop-at
+invariant-loop-at part out₀ at₀ count₀ out at count = Undoing part out₀ out at count
 
-abbrev decreases_loop : tie.decreases_loop
-decreases_loop part out₀ at₀ count₀ out at count = length part - at
+abbrev decreases-loop-at : tie.decreases-loop-at
+decreases-loop-at part out₀ at₀ count₀ out at count = length part - at
 
 pub put_undone_spec : {M : Type 1} → statement M
 put_undone_spec =
     tie.close
     (tie.spec
-    invariant_loop
-    decreases_loop
+    invariant-loop-at
+    decreases-loop-at
     (λ c. search (none_undone, rules))
     (λ c. search rules)
     (λ c. search (room_left, rules))

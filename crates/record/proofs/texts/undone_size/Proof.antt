@@ -6,18 +6,18 @@ use Rattle.record.proofs.Laws.Undoing.{Counted, none_counted, one_counted, less_
 use Rattle.record.proofs.texts.undone_size.Statement.{statement}
 use Rattle.record.proofs.texts.undone_size.Tie as tie
 
-abbrev invariant_loop : tie.invariant_loop
-invariant_loop part at₀ count₀ at count = Counted part at count
+abbrev invariant-loop-at : tie.invariant-loop-at
+invariant-loop-at part at₀ count₀ at count = Counted part at count
 
-abbrev decreases_loop : tie.decreases_loop
-decreases_loop part at₀ count₀ at count = length part - at
+abbrev decreases-loop-at : tie.decreases-loop-at
+decreases-loop-at part at₀ count₀ at count = length part - at
 
 pub undone_size_spec : {M : Type 1} → statement M
 undone_size_spec =
     tie.close
     (tie.spec
-    invariant_loop
-    decreases_loop
+    invariant-loop-at
+    decreases-loop-at
     (λ c. search (none_counted, rules))
     (λ c κs. search rules)
     (λ c. search rules)

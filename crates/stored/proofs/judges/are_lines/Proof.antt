@@ -7,18 +7,18 @@ use Rattle.stored.proofs.Judging.{lines_turn, lines_stop, lines_end}
 use Rattle.stored.proofs.judges.are_lines.Statement.{statement}
 use Rattle.stored.proofs.judges.are_lines.Tie as tie
 
-abbrev invariant_loop : tie.invariant_loop
-invariant_loop text from count left₀ at₀ left at = are_lines left (drop at text) ≡ are_lines count (drop from text)
+abbrev invariant-loop-left : tie.invariant-loop-left
+invariant-loop-left text from count left₀ at₀ left at = are_lines left (drop at text) ≡ are_lines count (drop from text)
 
-abbrev decreases_loop : tie.decreases_loop
-decreases_loop text from count left₀ at₀ left at = left
+abbrev decreases-loop-left : tie.decreases-loop-left
+decreases-loop-left text from count left₀ at₀ left at = left
 
 pub are_lines_spec : {M : Type 1} → statement M
 are_lines_spec =
     tie.close
     (tie.spec
-    invariant_loop
-    decreases_loop
+    invariant-loop-left
+    decreases-loop-left
     (λ c. search rules)
     (λ c κs. search rules)
     (λ c κs. search rules)

@@ -23,10 +23,10 @@ ring_read_spec =
     (λ c κs. search rules)
     (λ c. search rules)
     (λ c.
-    ring_done _ _ _ c.before.before.before.before.before.before.before.before.before.before.before.before.ring_judged.ensures
-    c.before.before.before.before.before.before.before.before.before.before.if2.true c.before.before.before.before.before.before.before.before.before.before.before.before.before.if1.false
-    c.before.before.before.before.before.before.before.before.if3.false _ c.before.before.before.before.before.take_slots.ensures _
-    c.before.before.before.before.before.before.before.home.ensures _ _ c.before.ring_total.ensures c.done.ensures)
+    ring_done _ _ _ c.ring_judged-judged.ensures
+    c.if-judged.true c.if-cap-gt-MOST.false
+    c.if-first-cap.false _ c.take_slots.ensures _
+    c.home-head.ensures _ _ c.ring_total-total.ensures c.done.ensures)
     (λ c κs. search rules)
     (λ c κs. search rules)
     (λ c κs. search rules)

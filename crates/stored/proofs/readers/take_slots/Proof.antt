@@ -10,20 +10,20 @@ use Rattle.stored.proofs.Taking.{none_off, none_read, eight, word_fits, slots_le
 use Rattle.stored.proofs.readers.take_slots.Statement.{statement}
 use Rattle.stored.proofs.readers.take_slots.Tie as tie
 
-abbrev invariant_loop : tie.invariant_loop
-invariant_loop text from slots₀ i₀ at₀ slots i at =
+abbrev invariant-loop-i : tie.invariant-loop-i
+invariant-loop-i text from slots₀ i₀ at₀ slots i at =
     (i ≤ length slots₀) × (at ≡ from + 9 * i) × (length slots ≡ length slots₀) × (are_lines (length slots₀ - i) (drop at text) ≡ true)
     × (take i slots ++ numbers (length slots₀ - i) (drop at text) ≡ numbers (length slots₀) (drop from text))
 
-abbrev decreases_loop : tie.decreases_loop
-decreases_loop text from slots₀ i₀ at₀ slots i at = length slots₀ - i
+abbrev decreases-loop-i : tie.decreases-loop-i
+decreases-loop-i text from slots₀ i₀ at₀ slots i at = length slots₀ - i
 
 pub take_slots_spec : {M : Type 1} → statement M
 take_slots_spec =
     tie.close
     (tie.spec
-    invariant_loop
-    decreases_loop
+    invariant-loop-i
+    decreases-loop-i
     (λ c. search (none_off, none_read, rules))
     (λ c. search rules)
     (λ c. search rules)

@@ -11,5 +11,5 @@ act_spec =
     (λ c κs. search rules)
     (λ c. search rules)
     (λ c κs. search rules)
-    (λ c. simp (c.before.before.call.given.1, c.act_ring.ensures))
-    (λ c. simp (c.before.before.call2.given.1, c.act_vector.ensures)))
+    (λ c. simp (c.in-Ring.is, c.act_ring.ensures))
+    (λ c. simp (c.in-Vector.is, c.act_vector.ensures)))

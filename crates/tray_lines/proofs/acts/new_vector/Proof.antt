@@ -11,4 +11,4 @@ new_vector_spec =
     (tie.spec
     (λ c. search rules)
     (λ c κs. search rules)
-    (λ c. ap (λ (o : Outcome). o.tray) c.before.new.ensures.row))
+    (λ c. ap (λ (o : Outcome). o.tray) c.before.new-a.ensures.row))

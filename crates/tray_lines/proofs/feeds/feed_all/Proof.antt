@@ -8,20 +8,20 @@ use Rattle.tray_lines.proofs.Fed.{step_at, feed_turn, feed_end}
 use Rattle.tray_lines.proofs.feeds.feed_all.Statement.{statement}
 use Rattle.tray_lines.proofs.feeds.feed_all.Tie as tie
 
-abbrev invariant_loop : tie.invariant_loop
-invariant_loop input out₀ s₀ at₀ i₀ out s at i =
+abbrev invariant-loop-i : tie.invariant-loop-i
+invariant-loop-i input out₀ s₀ at₀ i₀ out s at i =
     (i ≤ length input) × (at ≤ 27 * i) × (length out ≡ length out₀)
     × (puts (feeds keeping (midway s) (drop i input)) out at ≡ puts (feeds keeping (midway s₀) input) out₀ 0)
 
-abbrev decreases_loop : tie.decreases_loop
-decreases_loop input out₀ s₀ at₀ i₀ out s at i = length input - i
+abbrev decreases-loop-i : tie.decreases-loop-i
+decreases-loop-i input out₀ s₀ at₀ i₀ out s at i = length input - i
 
 pub feed_all_spec : {M : Type 1} → statement M
 feed_all_spec =
     tie.close
     (tie.spec
-    invariant_loop
-    decreases_loop
+    invariant-loop-i
+    decreases-loop-i
     (λ c. search rules)
     (λ c. search rules)
     (λ c κs. search rules)

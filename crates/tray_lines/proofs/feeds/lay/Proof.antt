@@ -9,18 +9,18 @@ use Rattle.tray_lines.proofs.Fed.{lay_start, lay_turn, lay_end}
 use Rattle.tray_lines.proofs.feeds.lay.Statement.{statement}
 use Rattle.tray_lines.proofs.feeds.lay.Tie as tie
 
-abbrev invariant_loop : tie.invariant_loop
-invariant_loop out₀ at text i₀ out i = (i ≤ 27) × (length out ≡ length out₀) × (put out (at + i) (drop i text) ≡ put out₀ at text)
+abbrev invariant-loop-i : tie.invariant-loop-i
+invariant-loop-i out₀ at text i₀ out i = (i ≤ 27) × (length out ≡ length out₀) × (put out (at + i) (drop i text) ≡ put out₀ at text)
 
-abbrev decreases_loop : tie.decreases_loop
-decreases_loop out₀ at text i₀ out i = 27 - i
+abbrev decreases-loop-i : tie.decreases-loop-i
+decreases-loop-i out₀ at text i₀ out i = 27 - i
 
 pub lay_spec : {M : Type 1} → statement M
 lay_spec =
     tie.close
     (tie.spec
-    invariant_loop
-    decreases_loop
+    invariant-loop-i
+    decreases-loop-i
     (λ c. search (lay_start, rules))
     (λ c. search rules)
     (λ c. search rules)
@@ -29,4 +29,4 @@ lay_spec =
     (λ c. search rules)
     (λ c. search (lay_turn, rules))
     (λ c. search rules)
-    (λ c. lay_end _ _ _ _ _ c.before.loop.invariant.2 (omega arith)))
+    (λ c. lay_end _ _ _ _ _ c.before.loop-i.invariant.2 (omega arith)))

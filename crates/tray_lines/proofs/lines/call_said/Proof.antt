@@ -6,9 +6,9 @@ use Rattle.tray_lines.proofs.Says.{unknown}
 use Rattle.tray_lines.proofs.lines.call_said.Statement.{statement}
 use Rattle.tray_lines.proofs.lines.call_said.Tie as tie
 
-no_such : tie.Need-returns-5
+no_such : tie.Need-returns-in_default
 unfolding call_says
-no_such c = unknown _ _ _ c.match.rest
+no_such c = unknown _ _ _ c.in_default.in_default-own.rest
 
 pub call_said_spec : {M : Type 1} → statement M
 unfolding under call_says
@@ -19,8 +19,8 @@ call_said_spec =
     (λ c κs. search rules)
     (λ c κs. search rules)
     (λ c κs. search rules)
-    (λ c. simp (c.before.match.keys1, c.ring_said.ensures))
-    (λ c. simp (c.before.match.keys2, c.ring_said2.ensures))
-    (λ c. simp (c.before.match.keys3, c.vector_said.ensures))
-    (λ c. simp (c.before.match.keys4, c.vector_said2.ensures))
+    (λ c. simp (c.in-0.is, c.ring_said.ensures))
+    (λ c. simp (c.in-1.is, c.ring_said-in-1.ensures))
+    (λ c. simp (c.in-2.is, c.vector_said.ensures))
+    (λ c. simp (c.in-3.is, c.vector_said-in-3.ensures))
     no_such)

@@ -4,24 +4,24 @@ use Rattle.tray_lines.proofs.Says.{unknown}
 use Rattle.tray_lines.proofs.lines.vector_said.Statement.{statement}
 use Rattle.tray_lines.proofs.lines.vector_said.Tie as tie
 
-no_such : tie.Need-returns-13
-no_such c = unknown _ _ _ c.match.rest
+no_such : tie.Need-returns-in_default
+no_such c = unknown _ _ _ c.in_default.in_default-own.rest
 
 pub vector_said_spec : {M : Type 1} → statement M
 unfolding under
 vector_said_spec =
     tie.close
     (tie.spec
-    (λ c. simp c.match.keys1)
-    (λ c. simp c.match.keys2)
-    (λ c. simp c.match.keys3)
-    (λ c. simp c.match.keys4)
-    (λ c. simp c.match.keys5)
-    (λ c. simp c.match.keys6)
-    (λ c. simp c.match.keys7)
-    (λ c. simp c.match.keys8)
-    (λ c. simp c.match.keys9)
-    (λ c. simp c.match.keys10)
-    (λ c. simp c.match.keys11)
-    (λ c. simp c.match.keys12)
+    (λ c. simp c.in-1.is)
+    (λ c. simp c.in-3.is)
+    (λ c. simp c.in-5.is)
+    (λ c. simp c.in-6.is)
+    (λ c. simp c.in-7.is)
+    (λ c. simp c.in-8.is)
+    (λ c. simp c.in-9.is)
+    (λ c. simp c.in-10.is)
+    (λ c. simp c.in-11.is)
+    (λ c. simp c.in-12.is)
+    (λ c. simp c.in-13.is)
+    (λ c. simp c.in-14.is)
     no_such)

@@ -5,13 +5,7 @@ ghost use Rattle.tumbrelice.specs.Heard.{Hears2, ring_of, vector_of};
 
 use super::{ring_in, vector_in, word};
 
-#[unsafe(no_mangle)]
-pub extern "C" fn tum_ring_same(
-    slots: &[u32],
-    state: &[u64; 3],
-    theirs: &[u32],
-    other: &[u64; 3],
-) -> u64
+pub fn tum_ring_same(slots: &[u32], state: &[u64; 3], theirs: &[u32], other: &[u64; 3]) -> u64
     ensures { Hears2 ring ring same (ring_of state.now slots.now) (ring_of other.now theirs.now) result (ring_of state.now slots.now) (ring_of other.now theirs.now) }
 {
     let r = ring_in(state);
@@ -20,13 +14,7 @@ pub extern "C" fn tum_ring_same(
     word(a.number, a.value, a.moves, a.slot)
 }
 
-#[unsafe(no_mangle)]
-pub extern "C" fn tum_vector_equal(
-    slots: &[u32],
-    state: &[u64; 2],
-    theirs: &[u32],
-    other: &[u64; 2],
-) -> u64
+pub fn tum_vector_equal(slots: &[u32], state: &[u64; 2], theirs: &[u32], other: &[u64; 2]) -> u64
     ensures { Hears2 vector vector same (vector_of state.now slots.now) (vector_of other.now theirs.now) result (vector_of state.now slots.now) (vector_of other.now theirs.now) }
 {
     let v = vector_in(state);
@@ -35,8 +23,7 @@ pub extern "C" fn tum_vector_equal(
     word(a.number, a.value, a.moves, a.slot)
 }
 
-#[unsafe(no_mangle)]
-pub extern "C" fn tum_ring_same_as_vector(
+pub fn tum_ring_same_as_vector(
     slots: &[u32],
     state: &[u64; 3],
     theirs: &[u32],

@@ -8,8 +8,7 @@ ghost use Rattle.tumbrelice.specs.HeardText.{HearsStored, HearsRead};
 use super::{ring_in, ring_made, vector_in, vector_made, word};
 use stored::{judges, readers};
 
-#[unsafe(no_mangle)]
-pub extern "C" fn tum_ring_text(slots: &[u32], state: &[u64; 3], text: &mut [u8]) -> u64
+pub fn tum_ring_text(slots: &[u32], state: &[u64; 3], text: &mut [u8]) -> u64
     ensures { HearsStored ring (ring_of state.now slots.now) text.old result text.new }
 {
     let r = ring_in(state);
@@ -17,8 +16,7 @@ pub extern "C" fn tum_ring_text(slots: &[u32], state: &[u64; 3], text: &mut [u8]
     word(told.number, told.value, told.moves, told.slot)
 }
 
-#[unsafe(no_mangle)]
-pub extern "C" fn tum_vector_text(slots: &[u32], state: &[u64; 2], text: &mut [u8]) -> u64
+pub fn tum_vector_text(slots: &[u32], state: &[u64; 2], text: &mut [u8]) -> u64
     ensures { HearsStored vector (vector_of state.now slots.now) text.old result text.new }
 {
     let v = vector_in(state);
@@ -26,8 +24,7 @@ pub extern "C" fn tum_vector_text(slots: &[u32], state: &[u64; 2], text: &mut [u
     word(a.number, a.value, a.moves, a.slot)
 }
 
-#[unsafe(no_mangle)]
-pub extern "C" fn tum_ring_text_read(slots: &mut [u32], state: &mut [u64; 3], text: &[u8]) -> u64
+pub fn tum_ring_text_read(slots: &mut [u32], state: &mut [u64; 3], text: &[u8]) -> u64
     ensures { HearsRead ring text.now slots.old result (ring_of state.new slots.new) }
 {
     let made = readers::ring_read(text, slots);
@@ -35,8 +32,7 @@ pub extern "C" fn tum_ring_text_read(slots: &mut [u32], state: &mut [u64; 3], te
     word(made.number, made.value, made.moves, made.slot)
 }
 
-#[unsafe(no_mangle)]
-pub extern "C" fn tum_vector_text_read(slots: &mut [u32], state: &mut [u64; 2], text: &[u8]) -> u64
+pub fn tum_vector_text_read(slots: &mut [u32], state: &mut [u64; 2], text: &[u8]) -> u64
     ensures { HearsRead vector text.now slots.old result (vector_of state.new slots.new) }
 {
     let read = readers::vector_read(text, slots);
@@ -45,8 +41,7 @@ pub extern "C" fn tum_vector_text_read(slots: &mut [u32], state: &mut [u64; 2], 
 }
 
 // Whether a text can be read, by a kind number of 64 bits, so that no other number is cut down to a kind: 1 is a yes, 0 a no.
-#[unsafe(no_mangle)]
-pub extern "C" fn tum_stored_check(text: &[u8], kind: u64) -> u64
+pub fn tum_stored_check(text: &[u8], kind: u64) -> u64
     ensures { result ≡ cond (judge_by kind text.now) 1 0 }
 {
     if judges::check(text, kind) {

@@ -7,8 +7,7 @@ use super::{ring_made, vector_made, word};
 use ring::Ring;
 use vector::Vector;
 
-#[unsafe(no_mangle)]
-pub extern "C" fn tum_ring_new(slots: &[u32], state: &mut [u64; 3]) -> u64
+pub fn tum_ring_new(slots: &[u32], state: &mut [u64; 3]) -> u64
     ensures { HearsMade ring new slots.now result (ring_of state.new slots.now) }
 {
     let a = Ring::new(slots);
@@ -16,8 +15,7 @@ pub extern "C" fn tum_ring_new(slots: &[u32], state: &mut [u64; 3]) -> u64
     word(a.number, a.value, a.moves, a.slot)
 }
 
-#[unsafe(no_mangle)]
-pub extern "C" fn tum_ring_with_capacity(slots: &[u32], state: &mut [u64; 3], k: usize) -> u64
+pub fn tum_ring_with_capacity(slots: &[u32], state: &mut [u64; 3], k: usize) -> u64
     ensures { HearsMade ring (with_capacity k) slots.now result (ring_of state.new slots.now) }
 {
     let a = Ring::with_capacity(slots, k);
@@ -25,8 +23,7 @@ pub extern "C" fn tum_ring_with_capacity(slots: &[u32], state: &mut [u64; 3], k:
     word(a.number, a.value, a.moves, a.slot)
 }
 
-#[unsafe(no_mangle)]
-pub extern "C" fn tum_vector_new(slots: &[u32], state: &mut [u64; 2]) -> u64
+pub fn tum_vector_new(slots: &[u32], state: &mut [u64; 2]) -> u64
     ensures { HearsMade vector new slots.now result (vector_of state.new slots.now) }
 {
     let a = Vector::new(slots);
@@ -34,8 +31,7 @@ pub extern "C" fn tum_vector_new(slots: &[u32], state: &mut [u64; 2]) -> u64
     word(a.number, a.value, a.moves, a.slot)
 }
 
-#[unsafe(no_mangle)]
-pub extern "C" fn tum_vector_with_capacity(slots: &[u32], state: &mut [u64; 2], k: usize) -> u64
+pub fn tum_vector_with_capacity(slots: &[u32], state: &mut [u64; 2], k: usize) -> u64
     ensures { HearsMade vector (with_capacity k) slots.now result (vector_of state.new slots.now) }
 {
     let a = Vector::with_capacity(slots, k);
@@ -43,13 +39,7 @@ pub extern "C" fn tum_vector_with_capacity(slots: &[u32], state: &mut [u64; 2], 
     word(a.number, a.value, a.moves, a.slot)
 }
 
-#[unsafe(no_mangle)]
-pub extern "C" fn tum_vector_from_elem(
-    slots: &mut [u32],
-    state: &mut [u64; 2],
-    k: usize,
-    x: u32,
-) -> u64
+pub fn tum_vector_from_elem(slots: &mut [u32], state: &mut [u64; 2], k: usize, x: u32) -> u64
     ensures { HearsMade vector (from_elem k x) slots.old result (vector_of state.new slots.new) }
 {
     let a = Vector::from_elem(slots, k, x);

@@ -13,8 +13,7 @@ fn part(first: usize, count: usize) -> u64
     count as u64 * 4294967296 + first as u64
 }
 
-#[unsafe(no_mangle)]
-pub extern "C" fn tum_vector_range(slots: &[u32], state: &[u64; 2], a: usize, b: usize) -> u64
+pub fn tum_vector_range(slots: &[u32], state: &[u64; 2], a: usize, b: usize) -> u64
     ensures { part_in result ≡ lends a b (vector_tray state.now slots.now) }
 {
     let cap = slots.len();
@@ -28,36 +27,31 @@ pub extern "C" fn tum_vector_range(slots: &[u32], state: &[u64; 2], a: usize, b:
     part(a, b - a)
 }
 
-#[unsafe(no_mangle)]
-pub extern "C" fn tum_vector_as_slice(slots: &[u32], state: &[u64; 2]) -> u64
+pub fn tum_vector_as_slice(slots: &[u32], state: &[u64; 2]) -> u64
     ensures { part_in result ≡ lends_all (vector_tray state.now slots.now) }
 {
     tum_vector_range(slots, state, 0, state[0] as usize)
 }
 
-#[unsafe(no_mangle)]
-pub extern "C" fn tum_vector_as_ref(slots: &[u32], state: &[u64; 2]) -> u64
+pub fn tum_vector_as_ref(slots: &[u32], state: &[u64; 2]) -> u64
     ensures { part_in result ≡ lends_all (vector_tray state.now slots.now) }
 {
     tum_vector_as_slice(slots, state) // upstream's AsRef
 }
 
-#[unsafe(no_mangle)]
-pub extern "C" fn tum_vector_deref(slots: &[u32], state: &[u64; 2]) -> u64
+pub fn tum_vector_deref(slots: &[u32], state: &[u64; 2]) -> u64
     ensures { part_in result ≡ lends_all (vector_tray state.now slots.now) }
 {
     tum_vector_as_slice(slots, state) // upstream's Deref
 }
 
-#[unsafe(no_mangle)]
-pub extern "C" fn tum_vector_as_mut_slice(slots: &[u32], state: &[u64; 2]) -> u64
+pub fn tum_vector_as_mut_slice(slots: &[u32], state: &[u64; 2]) -> u64
     ensures { part_in result ≡ lends_all (vector_tray state.now slots.now) }
 {
     tum_vector_as_slice(slots, state) // for writing, which is the caller's
 }
 
-#[unsafe(no_mangle)]
-pub extern "C" fn tum_vector_deref_mut(slots: &[u32], state: &[u64; 2]) -> u64
+pub fn tum_vector_deref_mut(slots: &[u32], state: &[u64; 2]) -> u64
     ensures { part_in result ≡ lends_all (vector_tray state.now slots.now) }
 {
     tum_vector_as_mut_slice(slots, state)

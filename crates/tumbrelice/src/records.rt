@@ -4,8 +4,7 @@ ghost use Rattle.tumbrelice.specs.HeardText.{HearsRecord, HearsTold, HearsUndone
 
 use super::{vector_in, vector_out, word};
 
-#[unsafe(no_mangle)]
-pub extern "C" fn tum_record_read(
+pub fn tum_record_read(
     text: &[u8],
     slots: &mut [u32],
     state: &mut [u64; 2],
@@ -22,16 +21,14 @@ pub extern "C" fn tum_record_read(
     word(a.number, a.value, a.moves, a.slot)
 }
 
-#[unsafe(no_mangle)]
-pub extern "C" fn tum_record_judge(text: &[u8]) -> u64
+pub fn tum_record_judge(text: &[u8]) -> u64
     ensures { HearsTold text.now result }
 {
     let a = record::texts::judge(text);
     word(a.number, a.value, 0, slots::NO_SLOT)
 }
 
-#[unsafe(no_mangle)]
-pub extern "C" fn tum_record_text(text: &[u8], start: usize, end: usize, out: &mut [u8]) -> u64
+pub fn tum_record_text(text: &[u8], start: usize, end: usize, out: &mut [u8]) -> u64
     ensures { HearsUndone text.now start end out.old result out.new }
 {
     let a = record::texts::field_text(text, start, end, out);

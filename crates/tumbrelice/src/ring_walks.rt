@@ -7,8 +7,7 @@ use super::walks::{begun, cursor_in, cursor_out, peeked, stepped};
 use super::{ring_in, vector_in, vector_out, word};
 use cursors::Cursor;
 
-#[unsafe(no_mangle)]
-pub extern "C" fn tum_ring_iter(slots: &[u32], state: &[u64; 3], cursor: &mut [usize; 2]) -> u64
+pub fn tum_ring_iter(slots: &[u32], state: &[u64; 3], cursor: &mut [usize; 2]) -> u64
     ensures { HearsAt ring iter (ring_of state.now slots.now) result (cursor_of cursor.new) }
 {
     let r = ring_in(state);
@@ -16,23 +15,13 @@ pub extern "C" fn tum_ring_iter(slots: &[u32], state: &[u64; 3], cursor: &mut [u
     begun(cursor, b.number, b.slot, b.cursor)
 }
 
-#[unsafe(no_mangle)]
-pub extern "C" fn tum_ring_into_iter(
-    slots: &[u32],
-    state: &[u64; 3],
-    cursor: &mut [usize; 2],
-) -> u64
+pub fn tum_ring_into_iter(slots: &[u32], state: &[u64; 3], cursor: &mut [usize; 2]) -> u64
     ensures { HearsAt ring into_iter (ring_of state.now slots.now) result (cursor_of cursor.new) }
 {
     tum_ring_iter(slots, state, cursor)
 }
 
-#[unsafe(no_mangle)]
-pub extern "C" fn tum_ring_step_front(
-    slots: &[u32],
-    state: &[u64; 3],
-    cursor: &mut [usize; 2],
-) -> u64
+pub fn tum_ring_step_front(slots: &[u32], state: &[u64; 3], cursor: &mut [usize; 2]) -> u64
     ensures { HearsAt ring (step_front (cursor_of cursor.old)) (ring_of state.now slots.now) result (cursor_of cursor.new) }
 {
     let r = ring_in(state);
@@ -41,12 +30,7 @@ pub extern "C" fn tum_ring_step_front(
     stepped(cursor, s)
 }
 
-#[unsafe(no_mangle)]
-pub extern "C" fn tum_ring_step_back(
-    slots: &[u32],
-    state: &[u64; 3],
-    cursor: &mut [usize; 2],
-) -> u64
+pub fn tum_ring_step_back(slots: &[u32], state: &[u64; 3], cursor: &mut [usize; 2]) -> u64
     ensures { HearsAt ring (step_back (cursor_of cursor.old)) (ring_of state.now slots.now) result (cursor_of cursor.new) }
 {
     let r = ring_in(state);
@@ -55,13 +39,7 @@ pub extern "C" fn tum_ring_step_back(
     stepped(cursor, s)
 }
 
-#[unsafe(no_mangle)]
-pub extern "C" fn tum_ring_peek_front(
-    slots: &[u32],
-    state: &[u64; 3],
-    cursor: &[usize; 2],
-    k: usize,
-) -> u64
+pub fn tum_ring_peek_front(slots: &[u32], state: &[u64; 3], cursor: &[usize; 2], k: usize) -> u64
     ensures { HearsAt ring (peek_front (cursor_of cursor.now) k) (ring_of state.now slots.now) result (cursor_of cursor.now) }
 {
     let r = ring_in(state);
@@ -70,13 +48,7 @@ pub extern "C" fn tum_ring_peek_front(
     peeked(s)
 }
 
-#[unsafe(no_mangle)]
-pub extern "C" fn tum_ring_peek_back(
-    slots: &[u32],
-    state: &[u64; 3],
-    cursor: &[usize; 2],
-    k: usize,
-) -> u64
+pub fn tum_ring_peek_back(slots: &[u32], state: &[u64; 3], cursor: &[usize; 2], k: usize) -> u64
     ensures { HearsAt ring (peek_back (cursor_of cursor.now) k) (ring_of state.now slots.now) result (cursor_of cursor.now) }
 {
     let r = ring_in(state);
@@ -85,8 +57,7 @@ pub extern "C" fn tum_ring_peek_back(
     peeked(s)
 }
 
-#[unsafe(no_mangle)]
-pub extern "C" fn tum_ring_from_iter(
+pub fn tum_ring_from_iter(
     slots: &[u32],
     state: &[u64; 3],
     cursor: &mut [usize; 2],

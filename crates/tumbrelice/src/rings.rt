@@ -5,8 +5,7 @@ ghost use Rattle.tumbrelice.specs.Heard.{Hears, HearsWithin, ring_of};
 
 use super::{ring_in, ring_out, ring_stays, ring_weighs, word};
 
-#[unsafe(no_mangle)]
-pub extern "C" fn tum_ring_len(slots: &[u32], state: &[u64; 3]) -> u64
+pub fn tum_ring_len(slots: &[u32], state: &[u64; 3]) -> u64
     ensures { Hears ring (look len) (ring_of state.now slots.now) result (ring_of state.now slots.now) }
 {
     let r = ring_in(state);
@@ -14,8 +13,7 @@ pub extern "C" fn tum_ring_len(slots: &[u32], state: &[u64; 3]) -> u64
     word(a.number, a.value, a.moves, a.slot)
 }
 
-#[unsafe(no_mangle)]
-pub extern "C" fn tum_ring_read(slots: &[u32], state: &[u64; 3], i: usize) -> u64
+pub fn tum_ring_read(slots: &[u32], state: &[u64; 3], i: usize) -> u64
     ensures { Hears ring (look (read i)) (ring_of state.now slots.now) result (ring_of state.now slots.now) }
 {
     let r = ring_in(state);
@@ -23,8 +21,7 @@ pub extern "C" fn tum_ring_read(slots: &[u32], state: &[u64; 3], i: usize) -> u6
     word(a.number, a.value, a.moves, a.slot)
 }
 
-#[unsafe(no_mangle)]
-pub extern "C" fn tum_ring_reserve(slots: &[u32], state: &[u64; 3], k: usize) -> u64
+pub fn tum_ring_reserve(slots: &[u32], state: &[u64; 3], k: usize) -> u64
     ensures { Hears ring (look (reserve k)) (ring_of state.now slots.now) result (ring_of state.now slots.now) }
 {
     let r = ring_in(state);
@@ -32,8 +29,7 @@ pub extern "C" fn tum_ring_reserve(slots: &[u32], state: &[u64; 3], k: usize) ->
     word(a.number, a.value, a.moves, a.slot)
 }
 
-#[unsafe(no_mangle)]
-pub extern "C" fn tum_ring_write(slots: &mut [u32], state: &mut [u64; 3], i: usize, x: u32) -> u64
+pub fn tum_ring_write(slots: &mut [u32], state: &mut [u64; 3], i: usize, x: u32) -> u64
     ensures { Hears ring (write i x) (ring_of state.old slots.old) result (ring_of state.new slots.new) }
 {
     let r = ring_in(state);
@@ -42,8 +38,7 @@ pub extern "C" fn tum_ring_write(slots: &mut [u32], state: &mut [u64; 3], i: usi
     word(a.number, a.value, a.moves, a.slot)
 }
 
-#[unsafe(no_mangle)]
-pub extern "C" fn tum_ring_push_back(slots: &mut [u32], state: &mut [u64; 3], x: u32) -> u64
+pub fn tum_ring_push_back(slots: &mut [u32], state: &mut [u64; 3], x: u32) -> u64
     ensures { Hears ring (push x) (ring_of state.old slots.old) result (ring_of state.new slots.new) }
 {
     let r = ring_in(state);
@@ -52,8 +47,7 @@ pub extern "C" fn tum_ring_push_back(slots: &mut [u32], state: &mut [u64; 3], x:
     word(a.number, a.value, a.moves, a.slot)
 }
 
-#[unsafe(no_mangle)]
-pub extern "C" fn tum_ring_push_front(slots: &mut [u32], state: &mut [u64; 3], x: u32) -> u64
+pub fn tum_ring_push_front(slots: &mut [u32], state: &mut [u64; 3], x: u32) -> u64
     ensures { Hears ring (push_front x) (ring_of state.old slots.old) result (ring_of state.new slots.new) }
 {
     let r = ring_in(state);
@@ -62,8 +56,7 @@ pub extern "C" fn tum_ring_push_front(slots: &mut [u32], state: &mut [u64; 3], x
     word(a.number, a.value, a.moves, a.slot)
 }
 
-#[unsafe(no_mangle)]
-pub extern "C" fn tum_ring_pop_back(slots: &mut [u32], state: &mut [u64; 3]) -> u64
+pub fn tum_ring_pop_back(slots: &mut [u32], state: &mut [u64; 3]) -> u64
     ensures { Hears ring pop (ring_of state.old slots.old) result (ring_of state.new slots.new) }
 {
     let r = ring_in(state);
@@ -72,8 +65,7 @@ pub extern "C" fn tum_ring_pop_back(slots: &mut [u32], state: &mut [u64; 3]) -> 
     word(a.number, a.value, a.moves, a.slot)
 }
 
-#[unsafe(no_mangle)]
-pub extern "C" fn tum_ring_pop_front(slots: &mut [u32], state: &mut [u64; 3]) -> u64
+pub fn tum_ring_pop_front(slots: &mut [u32], state: &mut [u64; 3]) -> u64
     ensures { Hears ring pop_front (ring_of state.old slots.old) result (ring_of state.new slots.new) }
 {
     let r = ring_in(state);
@@ -82,8 +74,7 @@ pub extern "C" fn tum_ring_pop_front(slots: &mut [u32], state: &mut [u64; 3]) ->
     word(a.number, a.value, a.moves, a.slot)
 }
 
-#[unsafe(no_mangle)]
-pub extern "C" fn tum_ring_insert(slots: &mut [u32], state: &mut [u64; 3], i: usize, x: u32) -> u64
+pub fn tum_ring_insert(slots: &mut [u32], state: &mut [u64; 3], i: usize, x: u32) -> u64
     ensures { Hears ring (insert i x) (ring_of state.old slots.old) result (ring_of state.new slots.new) }
 {
     let r = ring_in(state);
@@ -92,8 +83,7 @@ pub extern "C" fn tum_ring_insert(slots: &mut [u32], state: &mut [u64; 3], i: us
     word(a.number, a.value, a.moves, a.slot)
 }
 
-#[unsafe(no_mangle)]
-pub extern "C" fn tum_ring_remove(slots: &mut [u32], state: &mut [u64; 3], i: usize) -> u64
+pub fn tum_ring_remove(slots: &mut [u32], state: &mut [u64; 3], i: usize) -> u64
     ensures { Hears ring (remove i) (ring_of state.old slots.old) result (ring_of state.new slots.new) }
 {
     let r = ring_in(state);
@@ -102,8 +92,7 @@ pub extern "C" fn tum_ring_remove(slots: &mut [u32], state: &mut [u64; 3], i: us
     word(a.number, a.value, a.moves, a.slot)
 }
 
-#[unsafe(no_mangle)]
-pub extern "C" fn tum_ring_insert_within(
+pub fn tum_ring_insert_within(
     slots: &mut [u32],
     state: &mut [u64; 3],
     i: usize,
@@ -118,8 +107,7 @@ pub extern "C" fn tum_ring_insert_within(
     word(a.number, a.value, a.moves, a.slot)
 }
 
-#[unsafe(no_mangle)]
-pub extern "C" fn tum_ring_remove_within(
+pub fn tum_ring_remove_within(
     slots: &mut [u32],
     state: &mut [u64; 3],
     i: usize,
@@ -133,8 +121,7 @@ pub extern "C" fn tum_ring_remove_within(
     word(a.number, a.value, a.moves, a.slot)
 }
 
-#[unsafe(no_mangle)]
-pub extern "C" fn tum_ring_truncate(slots: &mut [u32], state: &mut [u64; 3], k: usize) -> u64
+pub fn tum_ring_truncate(slots: &mut [u32], state: &mut [u64; 3], k: usize) -> u64
     ensures { Hears ring (truncate k) (ring_of state.old slots.old) result (ring_of state.new slots.new) }
 {
     let r = ring_in(state);
@@ -143,8 +130,7 @@ pub extern "C" fn tum_ring_truncate(slots: &mut [u32], state: &mut [u64; 3], k: 
     word(a.number, a.value, a.moves, a.slot)
 }
 
-#[unsafe(no_mangle)]
-pub extern "C" fn tum_ring_resize(slots: &mut [u32], state: &mut [u64; 3], k: usize, x: u32) -> u64
+pub fn tum_ring_resize(slots: &mut [u32], state: &mut [u64; 3], k: usize, x: u32) -> u64
     ensures { Hears ring (resize k x) (ring_of state.old slots.old) result (ring_of state.new slots.new) }
 {
     let r = ring_in(state);
@@ -153,8 +139,7 @@ pub extern "C" fn tum_ring_resize(slots: &mut [u32], state: &mut [u64; 3], k: us
     word(a.number, a.value, a.moves, a.slot)
 }
 
-#[unsafe(no_mangle)]
-pub extern "C" fn tum_ring_clear(slots: &mut [u32], state: &mut [u64; 3]) -> u64
+pub fn tum_ring_clear(slots: &mut [u32], state: &mut [u64; 3]) -> u64
     ensures { Hears ring clear (ring_of state.old slots.old) result (ring_of state.new slots.new) }
 {
     let r = ring_in(state);

@@ -5,8 +5,7 @@ ghost use Rattle.tumbrelice.specs.Heard.{Hears2, ring_of, vector_of};
 
 use super::{ring_in, ring_out, vector_in, vector_out, word};
 
-#[unsafe(no_mangle)]
-pub extern "C" fn tum_ring_append(
+pub fn tum_ring_append(
     slots: &mut [u32],
     state: &mut [u64; 3],
     theirs: &mut [u32],
@@ -22,8 +21,7 @@ pub extern "C" fn tum_ring_append(
     word(a.number, a.value, a.moves, a.slot)
 }
 
-#[unsafe(no_mangle)]
-pub extern "C" fn tum_ring_split_off(
+pub fn tum_ring_split_off(
     slots: &mut [u32],
     state: &mut [u64; 3],
     i: usize,
@@ -40,8 +38,7 @@ pub extern "C" fn tum_ring_split_off(
     word(a.number, a.value, a.moves, a.slot)
 }
 
-#[unsafe(no_mangle)]
-pub extern "C" fn tum_ring_clone(
+pub fn tum_ring_clone(
     slots: &[u32],
     state: &[u64; 3],
     theirs: &mut [u32],
@@ -56,8 +53,7 @@ pub extern "C" fn tum_ring_clone(
     word(a.number, a.value, a.moves, a.slot)
 }
 
-#[unsafe(no_mangle)]
-pub extern "C" fn tum_vector_append(
+pub fn tum_vector_append(
     slots: &mut [u32],
     state: &mut [u64; 2],
     theirs: &mut [u32],
@@ -73,8 +69,7 @@ pub extern "C" fn tum_vector_append(
     word(a.number, a.value, a.moves, a.slot)
 }
 
-#[unsafe(no_mangle)]
-pub extern "C" fn tum_vector_split_off(
+pub fn tum_vector_split_off(
     slots: &mut [u32],
     state: &mut [u64; 2],
     i: usize,
@@ -91,8 +86,7 @@ pub extern "C" fn tum_vector_split_off(
     word(a.number, a.value, a.moves, a.slot)
 }
 
-#[unsafe(no_mangle)]
-pub extern "C" fn tum_vector_clone(
+pub fn tum_vector_clone(
     slots: &[u32],
     state: &[u64; 2],
     theirs: &mut [u32],

@@ -7,8 +7,7 @@ use super::walks::{begun, cursor_in, cursor_out, peeked, stepped};
 use super::{vector_in, vector_out, word};
 use cursors::Cursor;
 
-#[unsafe(no_mangle)]
-pub extern "C" fn tum_vector_iter(slots: &[u32], state: &[u64; 2], cursor: &mut [usize; 2]) -> u64
+pub fn tum_vector_iter(slots: &[u32], state: &[u64; 2], cursor: &mut [usize; 2]) -> u64
     ensures { HearsAt vector iter (vector_of state.now slots.now) result (cursor_of cursor.new) }
 {
     let v = vector_in(state);
@@ -16,23 +15,13 @@ pub extern "C" fn tum_vector_iter(slots: &[u32], state: &[u64; 2], cursor: &mut 
     begun(cursor, b.number, b.slot, b.cursor)
 }
 
-#[unsafe(no_mangle)]
-pub extern "C" fn tum_vector_into_iter(
-    slots: &[u32],
-    state: &[u64; 2],
-    cursor: &mut [usize; 2],
-) -> u64
+pub fn tum_vector_into_iter(slots: &[u32], state: &[u64; 2], cursor: &mut [usize; 2]) -> u64
     ensures { HearsAt vector into_iter (vector_of state.now slots.now) result (cursor_of cursor.new) }
 {
     tum_vector_iter(slots, state, cursor)
 }
 
-#[unsafe(no_mangle)]
-pub extern "C" fn tum_vector_step_front(
-    slots: &[u32],
-    state: &[u64; 2],
-    cursor: &mut [usize; 2],
-) -> u64
+pub fn tum_vector_step_front(slots: &[u32], state: &[u64; 2], cursor: &mut [usize; 2]) -> u64
     ensures { HearsAt vector (step_front (cursor_of cursor.old)) (vector_of state.now slots.now) result (cursor_of cursor.new) }
 {
     let v = vector_in(state);
@@ -41,12 +30,7 @@ pub extern "C" fn tum_vector_step_front(
     stepped(cursor, s)
 }
 
-#[unsafe(no_mangle)]
-pub extern "C" fn tum_vector_step_back(
-    slots: &[u32],
-    state: &[u64; 2],
-    cursor: &mut [usize; 2],
-) -> u64
+pub fn tum_vector_step_back(slots: &[u32], state: &[u64; 2], cursor: &mut [usize; 2]) -> u64
     ensures { HearsAt vector (step_back (cursor_of cursor.old)) (vector_of state.now slots.now) result (cursor_of cursor.new) }
 {
     let v = vector_in(state);
@@ -55,13 +39,7 @@ pub extern "C" fn tum_vector_step_back(
     stepped(cursor, s)
 }
 
-#[unsafe(no_mangle)]
-pub extern "C" fn tum_vector_peek_front(
-    slots: &[u32],
-    state: &[u64; 2],
-    cursor: &[usize; 2],
-    k: usize,
-) -> u64
+pub fn tum_vector_peek_front(slots: &[u32], state: &[u64; 2], cursor: &[usize; 2], k: usize) -> u64
     ensures { HearsAt vector (peek_front (cursor_of cursor.now) k) (vector_of state.now slots.now) result (cursor_of cursor.now) }
 {
     let v = vector_in(state);
@@ -70,13 +48,7 @@ pub extern "C" fn tum_vector_peek_front(
     peeked(s)
 }
 
-#[unsafe(no_mangle)]
-pub extern "C" fn tum_vector_peek_back(
-    slots: &[u32],
-    state: &[u64; 2],
-    cursor: &[usize; 2],
-    k: usize,
-) -> u64
+pub fn tum_vector_peek_back(slots: &[u32], state: &[u64; 2], cursor: &[usize; 2], k: usize) -> u64
     ensures { HearsAt vector (peek_back (cursor_of cursor.now) k) (vector_of state.now slots.now) result (cursor_of cursor.now) }
 {
     let v = vector_in(state);
@@ -85,8 +57,7 @@ pub extern "C" fn tum_vector_peek_back(
     peeked(s)
 }
 
-#[unsafe(no_mangle)]
-pub extern "C" fn tum_vector_from_iter(
+pub fn tum_vector_from_iter(
     slots: &[u32],
     state: &[u64; 2],
     cursor: &mut [usize; 2],

@@ -6,8 +6,7 @@ ghost use Rattle.tumbrelice.specs.Heard.{Hears, vector_of};
 
 use super::{vector_in, vector_out, vector_weighs, word};
 
-#[unsafe(no_mangle)]
-pub extern "C" fn tum_vector_len(slots: &[u32], state: &[u64; 2]) -> u64
+pub fn tum_vector_len(slots: &[u32], state: &[u64; 2]) -> u64
     ensures { Hears vector (look len) (vector_of state.now slots.now) result (vector_of state.now slots.now) }
 {
     let v = vector_in(state);
@@ -15,8 +14,7 @@ pub extern "C" fn tum_vector_len(slots: &[u32], state: &[u64; 2]) -> u64
     word(a.number, a.value, a.moves, a.slot)
 }
 
-#[unsafe(no_mangle)]
-pub extern "C" fn tum_vector_is_empty(slots: &[u32], state: &[u64; 2]) -> u64
+pub fn tum_vector_is_empty(slots: &[u32], state: &[u64; 2]) -> u64
     ensures { Hears vector (look is_empty) (vector_of state.now slots.now) result (vector_of state.now slots.now) }
 {
     let v = vector_in(state);
@@ -24,8 +22,7 @@ pub extern "C" fn tum_vector_is_empty(slots: &[u32], state: &[u64; 2]) -> u64
     word(a.number, a.value, a.moves, a.slot)
 }
 
-#[unsafe(no_mangle)]
-pub extern "C" fn tum_vector_read(slots: &[u32], state: &[u64; 2], i: usize) -> u64
+pub fn tum_vector_read(slots: &[u32], state: &[u64; 2], i: usize) -> u64
     ensures { Hears vector (look (read i)) (vector_of state.now slots.now) result (vector_of state.now slots.now) }
 {
     let v = vector_in(state);
@@ -33,8 +30,7 @@ pub extern "C" fn tum_vector_read(slots: &[u32], state: &[u64; 2], i: usize) -> 
     word(a.number, a.value, a.moves, a.slot)
 }
 
-#[unsafe(no_mangle)]
-pub extern "C" fn tum_vector_reserve(slots: &[u32], state: &[u64; 2], k: usize) -> u64
+pub fn tum_vector_reserve(slots: &[u32], state: &[u64; 2], k: usize) -> u64
     ensures { Hears vector (look (reserve k)) (vector_of state.now slots.now) result (vector_of state.now slots.now) }
 {
     let v = vector_in(state);
@@ -42,8 +38,7 @@ pub extern "C" fn tum_vector_reserve(slots: &[u32], state: &[u64; 2], k: usize) 
     word(a.number, a.value, a.moves, a.slot)
 }
 
-#[unsafe(no_mangle)]
-pub extern "C" fn tum_vector_try_reserve(slots: &[u32], state: &[u64; 2], k: usize) -> u64
+pub fn tum_vector_try_reserve(slots: &[u32], state: &[u64; 2], k: usize) -> u64
     ensures { Hears vector (look (try_reserve k)) (vector_of state.now slots.now) result (vector_of state.now slots.now) }
 {
     let v = vector_in(state);
@@ -51,8 +46,7 @@ pub extern "C" fn tum_vector_try_reserve(slots: &[u32], state: &[u64; 2], k: usi
     word(a.number, a.value, a.moves, a.slot)
 }
 
-#[unsafe(no_mangle)]
-pub extern "C" fn tum_vector_try_reserve_exact(slots: &[u32], state: &[u64; 2], k: usize) -> u64
+pub fn tum_vector_try_reserve_exact(slots: &[u32], state: &[u64; 2], k: usize) -> u64
     ensures { Hears vector (look (try_reserve_exact k)) (vector_of state.now slots.now) result (vector_of state.now slots.now) }
 {
     let v = vector_in(state);
@@ -60,8 +54,7 @@ pub extern "C" fn tum_vector_try_reserve_exact(slots: &[u32], state: &[u64; 2], 
     word(a.number, a.value, a.moves, a.slot)
 }
 
-#[unsafe(no_mangle)]
-pub extern "C" fn tum_vector_ask_range(slots: &[u32], state: &[u64; 2], a: usize, b: usize) -> u64
+pub fn tum_vector_ask_range(slots: &[u32], state: &[u64; 2], a: usize, b: usize) -> u64
     ensures { Hears vector (look (range a b)) (vector_of state.now slots.now) result (vector_of state.now slots.now) }
 {
     let v = vector_in(state);
@@ -69,8 +62,7 @@ pub extern "C" fn tum_vector_ask_range(slots: &[u32], state: &[u64; 2], a: usize
     word(q.number, q.value, q.moves, q.slot)
 }
 
-#[unsafe(no_mangle)]
-pub extern "C" fn tum_vector_write(slots: &mut [u32], state: &mut [u64; 2], i: usize, x: u32) -> u64
+pub fn tum_vector_write(slots: &mut [u32], state: &mut [u64; 2], i: usize, x: u32) -> u64
     ensures { Hears vector (write i x) (vector_of state.old slots.old) result (vector_of state.new slots.new) }
 {
     let v = vector_in(state);
@@ -79,8 +71,7 @@ pub extern "C" fn tum_vector_write(slots: &mut [u32], state: &mut [u64; 2], i: u
     word(a.number, a.value, a.moves, a.slot)
 }
 
-#[unsafe(no_mangle)]
-pub extern "C" fn tum_vector_push(slots: &mut [u32], state: &mut [u64; 2], x: u32) -> u64
+pub fn tum_vector_push(slots: &mut [u32], state: &mut [u64; 2], x: u32) -> u64
     ensures { Hears vector (push x) (vector_of state.old slots.old) result (vector_of state.new slots.new) }
 {
     let v = vector_in(state);
@@ -89,8 +80,7 @@ pub extern "C" fn tum_vector_push(slots: &mut [u32], state: &mut [u64; 2], x: u3
     word(a.number, a.value, a.moves, a.slot)
 }
 
-#[unsafe(no_mangle)]
-pub extern "C" fn tum_vector_pop(slots: &mut [u32], state: &mut [u64; 2]) -> u64
+pub fn tum_vector_pop(slots: &mut [u32], state: &mut [u64; 2]) -> u64
     ensures { Hears vector pop (vector_of state.old slots.old) result (vector_of state.new slots.new) }
 {
     let v = vector_in(state);
@@ -99,13 +89,7 @@ pub extern "C" fn tum_vector_pop(slots: &mut [u32], state: &mut [u64; 2]) -> u64
     word(a.number, a.value, a.moves, a.slot)
 }
 
-#[unsafe(no_mangle)]
-pub extern "C" fn tum_vector_insert(
-    slots: &mut [u32],
-    state: &mut [u64; 2],
-    i: usize,
-    x: u32,
-) -> u64
+pub fn tum_vector_insert(slots: &mut [u32], state: &mut [u64; 2], i: usize, x: u32) -> u64
     ensures { Hears vector (insert i x) (vector_of state.old slots.old) result (vector_of state.new slots.new) }
 {
     let v = vector_in(state);
@@ -114,8 +98,7 @@ pub extern "C" fn tum_vector_insert(
     word(a.number, a.value, a.moves, a.slot)
 }
 
-#[unsafe(no_mangle)]
-pub extern "C" fn tum_vector_remove(slots: &mut [u32], state: &mut [u64; 2], i: usize) -> u64
+pub fn tum_vector_remove(slots: &mut [u32], state: &mut [u64; 2], i: usize) -> u64
     ensures { Hears vector (remove i) (vector_of state.old slots.old) result (vector_of state.new slots.new) }
 {
     let v = vector_in(state);
@@ -124,8 +107,7 @@ pub extern "C" fn tum_vector_remove(slots: &mut [u32], state: &mut [u64; 2], i: 
     word(a.number, a.value, a.moves, a.slot)
 }
 
-#[unsafe(no_mangle)]
-pub extern "C" fn tum_vector_swap_remove(slots: &mut [u32], state: &mut [u64; 2], i: usize) -> u64
+pub fn tum_vector_swap_remove(slots: &mut [u32], state: &mut [u64; 2], i: usize) -> u64
     ensures { Hears vector (swap_remove i) (vector_of state.old slots.old) result (vector_of state.new slots.new) }
 {
     let v = vector_in(state);
@@ -134,8 +116,7 @@ pub extern "C" fn tum_vector_swap_remove(slots: &mut [u32], state: &mut [u64; 2]
     word(a.number, a.value, a.moves, a.slot)
 }
 
-#[unsafe(no_mangle)]
-pub extern "C" fn tum_vector_truncate(slots: &mut [u32], state: &mut [u64; 2], k: usize) -> u64
+pub fn tum_vector_truncate(slots: &mut [u32], state: &mut [u64; 2], k: usize) -> u64
     ensures { Hears vector (truncate k) (vector_of state.old slots.old) result (vector_of state.new slots.new) }
 {
     let v = vector_in(state);
@@ -144,13 +125,7 @@ pub extern "C" fn tum_vector_truncate(slots: &mut [u32], state: &mut [u64; 2], k
     word(a.number, a.value, a.moves, a.slot)
 }
 
-#[unsafe(no_mangle)]
-pub extern "C" fn tum_vector_resize(
-    slots: &mut [u32],
-    state: &mut [u64; 2],
-    k: usize,
-    x: u32,
-) -> u64
+pub fn tum_vector_resize(slots: &mut [u32], state: &mut [u64; 2], k: usize, x: u32) -> u64
     ensures { Hears vector (resize k x) (vector_of state.old slots.old) result (vector_of state.new slots.new) }
 {
     let v = vector_in(state);
@@ -159,8 +134,7 @@ pub extern "C" fn tum_vector_resize(
     word(a.number, a.value, a.moves, a.slot)
 }
 
-#[unsafe(no_mangle)]
-pub extern "C" fn tum_vector_clear(slots: &mut [u32], state: &mut [u64; 2]) -> u64
+pub fn tum_vector_clear(slots: &mut [u32], state: &mut [u64; 2]) -> u64
     ensures { Hears vector clear (vector_of state.old slots.old) result (vector_of state.new slots.new) }
 {
     let v = vector_in(state);
@@ -169,12 +143,7 @@ pub extern "C" fn tum_vector_clear(slots: &mut [u32], state: &mut [u64; 2]) -> u
     word(a.number, a.value, a.moves, a.slot)
 }
 
-#[unsafe(no_mangle)]
-pub extern "C" fn tum_vector_extend_from_slice(
-    slots: &mut [u32],
-    state: &mut [u64; 2],
-    s: &[u32],
-) -> u64
+pub fn tum_vector_extend_from_slice(slots: &mut [u32], state: &mut [u64; 2], s: &[u32]) -> u64
     ensures { Hears vector (extend s.now) (vector_of state.old slots.old) result (vector_of state.new slots.new) }
 {
     let v = vector_in(state);

@@ -1,0 +1,81 @@
+// A cursor's calls over a vector, which they leave as it is. from_iter fills a vector.
+ghost use Rattle.slots.specs.Layout.{vector};
+ghost use Rattle.table.specs.Calls.{iter, into_iter, step_front, step_back, peek_front, peek_back};
+ghost use Rattle.tumbrelice.specs.Heard.{HearsAt, HearsInto, vector_of, cursor_of};
+
+#[unsafe(no_mangle)]
+pub extern "C" fn tum_vector_iter(slots: &[u32], state: &[u64; 2], cursor: &mut [usize; 2]) -> u64
+    ensures { HearsAt vector iter (vector_of state.now slots.now) result (cursor_of cursor.new) }
+{
+    tumbrelice::vector_walks::tum_vector_iter(slots, state, cursor)
+}
+
+#[unsafe(no_mangle)]
+pub extern "C" fn tum_vector_into_iter(
+    slots: &[u32],
+    state: &[u64; 2],
+    cursor: &mut [usize; 2],
+) -> u64
+    ensures { HearsAt vector into_iter (vector_of state.now slots.now) result (cursor_of cursor.new) }
+{
+    tumbrelice::vector_walks::tum_vector_into_iter(slots, state, cursor)
+}
+
+#[unsafe(no_mangle)]
+pub extern "C" fn tum_vector_step_front(
+    slots: &[u32],
+    state: &[u64; 2],
+    cursor: &mut [usize; 2],
+) -> u64
+    ensures { HearsAt vector (step_front (cursor_of cursor.old)) (vector_of state.now slots.now) result (cursor_of cursor.new) }
+{
+    tumbrelice::vector_walks::tum_vector_step_front(slots, state, cursor)
+}
+
+#[unsafe(no_mangle)]
+pub extern "C" fn tum_vector_step_back(
+    slots: &[u32],
+    state: &[u64; 2],
+    cursor: &mut [usize; 2],
+) -> u64
+    ensures { HearsAt vector (step_back (cursor_of cursor.old)) (vector_of state.now slots.now) result (cursor_of cursor.new) }
+{
+    tumbrelice::vector_walks::tum_vector_step_back(slots, state, cursor)
+}
+
+#[unsafe(no_mangle)]
+pub extern "C" fn tum_vector_peek_front(
+    slots: &[u32],
+    state: &[u64; 2],
+    cursor: &[usize; 2],
+    k: usize,
+) -> u64
+    ensures { HearsAt vector (peek_front (cursor_of cursor.now) k) (vector_of state.now slots.now) result (cursor_of cursor.now) }
+{
+    tumbrelice::vector_walks::tum_vector_peek_front(slots, state, cursor, k)
+}
+
+#[unsafe(no_mangle)]
+pub extern "C" fn tum_vector_peek_back(
+    slots: &[u32],
+    state: &[u64; 2],
+    cursor: &[usize; 2],
+    k: usize,
+) -> u64
+    ensures { HearsAt vector (peek_back (cursor_of cursor.now) k) (vector_of state.now slots.now) result (cursor_of cursor.now) }
+{
+    tumbrelice::vector_walks::tum_vector_peek_back(slots, state, cursor, k)
+}
+
+#[unsafe(no_mangle)]
+pub extern "C" fn tum_vector_from_iter(
+    slots: &[u32],
+    state: &[u64; 2],
+    cursor: &mut [usize; 2],
+    theirs: &mut [u32],
+    other: &mut [u64; 2],
+) -> u64
+    ensures { HearsInto vector (cursor_of cursor.old) (vector_of state.now slots.now) (vector_of other.old theirs.old) result (cursor_of cursor.new) (vector_of other.new theirs.new) }
+{
+    tumbrelice::vector_walks::tum_vector_from_iter(slots, state, cursor, theirs, other)
+}

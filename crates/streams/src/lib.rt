@@ -2,7 +2,8 @@
 // what it does then.
 #![tactic(auto)]
 
-ghost use Rattle.std.specs.Prelude.{◌≡◌, ◌≤◌, length};
+ghost use Rattle.std.specs.Prelude.{◌≡◌, ◌≤◌, true, length, take};
+ghost use Rattle.std.specs.Io.KnownBytes.{Appends, Consumes};
 
 use std::io::{Read, Write};
 
@@ -13,9 +14,11 @@ pub struct Got {
     pub failed: bool,
 }
 
-// One read, to the front of the part.
+// One read, to the front of the part. One that failed gave no byte, and took none.
 pub fn read<R: Read>(input: &mut R, part: &mut [u8]) -> Got
-    ensures { result.count ≤ length part.new }
+    ensures fits { result.count ≤ length part.new }
+    ensures none { result.failed ≡ true → result.count ≡ 0 }
+    ensures taken { Consumes (R.remaining input.old) (R.remaining input.new) (take result.count part.new) }
 {
     match input.read(part) {
         Ok(count) => Got {
@@ -30,6 +33,8 @@ pub fn read<R: Read>(input: &mut R, part: &mut [u8]) -> Got
 }
 
 // Writes all of it, and answers whether the output took it.
-pub fn write_all<W: Write>(output: &mut W, bytes: &[u8]) -> bool {
+pub fn write_all<W: Write>(output: &mut W, bytes: &[u8]) -> bool
+    ensures { result ≡ true → Appends (W.contents output.old) (W.contents output.new) bytes.now }
+{
     output.write_all(bytes).is_ok()
 }

@@ -3,32 +3,30 @@
 # part of the gate.
 .PHONY: test run bench compare firmware footprint
 
-# First the papers and the layout, then everything is proved from nothing: tools/ci runs rt ci and lets its 'N passed, M failed'
-# through last, once every wrong body was seen refused by itself. After a failure make adds a line on stderr and exits with 2.
+# First the papers and the layout, then everything is proved: tools/ci runs rt ci, which also wants each file as rt fmt lays it out, and lets its
+# 'N passed, M failed' through last, once every wrong body was seen refused by itself. After a failure make adds a line on stderr and exits with 2.
 test:
 	@python3 tools/check-layout
 	@python3 tools/check-promises
 	@python3 tools/check-header
 	@python3 tools/check-papers
-	@rt fmt --check
 	@python3 tools/tray-model <crates/tray/stdin | cmp - crates/tray/stdout
 	@python3 tools/import-model <crates/import/stdin | cmp - crates/import/stdout
 	@python3 tools/show-model <crates/show/stdin | cmp - crates/show/stdout
 	@python3 tools/ci
 
 # First the program import on a worklist whose names have commas, quotes and a line break in them, then show on the stored text of a tray, then tray on
-# paper 01's listing: its answers, and beside them what they say. What rt says goes to stderr. Programs are compiled for x86-64; on another processor rt has run tray under its emulator,
-# and the log has the same lines. The listing is the first LISTING lines of crates/tray/stdin; the gate's further cases come after it.
+# paper 01's listing: its answers, and beside them what they say. What rt says goes to stderr. Programs are compiled for x86-64. The listing is the first LISTING lines of crates/tray/stdin; the gate's further cases come after it.
 LISTING = 7
 run:
-	@rt check import show tray >&2
+	@tools/build import show tray
 	@echo "import <examples/worklist.csv"
 	@python3 tools/import <examples/worklist.csv
 	@echo
 	@echo "show <examples/tray.stored"
 	@python3 tools/show <examples/tray.stored
 	@echo
-	@if [ "$$(uname -m)" = x86_64 ]; then target/bin/tray <crates/tray/stdin; else cat target/log/tray.stdout; fi | head -n $(LISTING) | python3 tools/show-run crates/tray/stdin
+	@target/bin/tray <crates/tray/stdin | head -n $(LISTING) | python3 tools/show-run crates/tray/stdin
 
 # The proved calls against Rust's own containers and the same rules by hand, and reading records against other readers, with rustc, on x86-64 or 64-bit
 # Arm: prints the ratios and writes docs/PERFORMANCE.md. BENCH_ONLY=records prints those of records, BENCH_ONLY=stored those of stored texts that are

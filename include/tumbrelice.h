@@ -1,5 +1,5 @@
 /* Tumbrelice for C99 and C++: rings and vectors of unsigned 32-bit entries on slots that the caller lends, and records of comma-separated text.
-   docs/RULES.md has the rules in full; the words here are the ones used there. Link libtumbrelice.a, which `rt staticlib tumbrelice` makes.
+   docs/RULES.md has the rules in full; the words here are the ones used there. Link libtumbrelice.a, which `tools/build tumbrelice` makes.
 
    Where state lives. The archive keeps nothing between calls, no number and no pointer. All there is of a container is the run of slots that you
    lend, at most 4,096 of them, and the struct below, which holds the state that the last call gave back. It begins with a making (tumring_new and its

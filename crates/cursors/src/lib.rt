@@ -1,4 +1,6 @@
 // Cursors by value over a ring or a vector: what a step, a peek, iter and from_iter answer.
+#![tactic(auto)]
+
 pub mod over_ring; // over_ring.rt: a cursor's calls over a ring
 pub mod over_vector; // over_vector.rt: a cursor's calls over a vector
 

@@ -1,4 +1,6 @@
 // Hexadecimal text: digits put into a lent text, and read back from one.
+#![tactic(auto)]
+
 ghost use Rattle.std.specs.Prelude.{◌≡◌, ◌^◌, ◌<◌, true, not, length};
 ghost use Rattle.digits.specs.Hex.{digit, hex, are_digits, is_digit, number_in};
 ghost use Rattle.digits.specs.Low.{low_of, low_in};

@@ -1,4 +1,6 @@
 // The line reader: a text and the place in it together. Each line is so many lower-case hexadecimal digits, ended by LF.
+#![tactic(auto)]
+
 ghost use Rattle.std.specs.Prelude.{◌≡◌};
 ghost use Rattle.lines.specs.Line.{line_at, is_number, number_in};
 

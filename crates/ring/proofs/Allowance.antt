@@ -6,7 +6,6 @@ use mathlib.Core.List.{List}
 use native.Mathlib.Omega.{arith}
 use lib.ListN.{length}
 use contract.Lifetimes.{Lfts}
-use denote.Ref.{Bor}
 use denote.MutBor.{MutBor}
 use denote.Triple.Clauses.{AtExit}
 use Rattle.slots.specs.Layout.{ring}

@@ -1,4 +1,6 @@
 // A ring of entries in lent slots. Each call's promise is its row of the table: what is seen of it is what the table says.
+#![tactic(auto)]
+
 mod within; // within.rt: the calls with an allowance
 
 ghost use Rattle.std.specs.Prelude.{◌≡◌};

@@ -1,4 +1,6 @@
 // Runs of lent slots: they shift by one, are filled, copied, compared, added up and cleared. No law stands here: those of `slots` are cited.
+#![tactic(auto)]
+
 pub mod copy; // copy.rt: numbers laid into positions, from a lent part or another ring
 pub mod compare; // compare.rt: whether two lent parts, or the entries of two rings, are equal
 pub mod bring; // bring.rt: numbers laid into slots and added up in one pass

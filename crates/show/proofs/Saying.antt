@@ -11,7 +11,7 @@ use Rattle.show.specs.Lines.{sized, headed, len_total, ring_line, vector_line, o
 
 -- a is the text before, at the place; b, c and so on are the text after each piece, m, m2 and so on the places behind them
 module _ {a b : List ℕ} {at m : ℕ} (what : ℕ) where
-  pub expected_1 : Wrote a at (bytes "a digit 0_9 or a_f") m b → what ≡ 1 → Wrote a at (expected what) m b
+  pub expected_1 : Wrote a at (bytes "a digit 0-9 or a-f") m b → what ≡ 1 → Wrote a at (expected what) m b
   unfolding expected
   expected_1 p e = rw e p
 

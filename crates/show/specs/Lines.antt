@@ -31,7 +31,7 @@ older_said was h = cond (eqb was h) [] (older_line was)
 -- what was expected
 unfoldable pub expected : (what : ℕ) → List ℕ
 expected what =
-    cond (eqb what a_digit) (bytes "a digit 0_9 or a_f")
+    cond (eqb what a_digit) (bytes "a digit 0-9 or a-f")
     (cond (eqb what line_end) (bytes "the end of the line (LF)")
     (cond (eqb what a_kind) (bytes "00 for a ring or 01 for a vector")
     (cond (eqb what zero_byte) (bytes "00")

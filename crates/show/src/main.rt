@@ -1,4 +1,6 @@
 // Reads a stored text from standard input and draws the container that it stands for, or says why the text is not acceptable.
+#![tactic(auto)]
+
 mod faults; // faults.rt: the first fault of a text
 mod rows; // rows.rt: the rows of a drawing
 mod says; // says.rt: the other lines
@@ -10,7 +12,7 @@ ghost use Rattle.show.specs.Faults.{fault};
 ghost use Rattle.show.specs.Rows.{group};
 ghost use Rattle.show.specs.Drawable.{Drawable, Shown};
 
-use libc::{STDERR_FILENO, STDIN_FILENO, STDOUT_FILENO};
+use std::io::{Read, Write};
 use words::put_text;
 
 // How much of the input was read, and whether it failed there.
@@ -21,18 +23,18 @@ struct Got {
 }
 
 // Reads until the text's room is full, or the input ends or fails.
-fn fill(text: &mut [u8]) -> Got
+fn fill<R: Read>(input: &mut R, text: &mut [u8]) -> Got
     ensures { result.held ≤ length text.old }
 {
     let mut at = 0;
     while at < text.len() {
         let part = &mut text[at..];
-        let got = libc::read(STDIN_FILENO, part);
-        let count = io::count(got, part);
+        let got = streams::read(input, part);
+        let count = got.count;
         if count == 0 {
             return Got {
                 held: at,
-                failed: got < 0,
+                failed: got.failed,
             };
         }
         at += count;
@@ -71,7 +73,7 @@ fn put_group(
 }
 
 // The slots, eight in a row.
-fn draw_slots(slots: &[u32], head: usize, len: usize, out: &mut [u8])
+fn draw_slots<W: Write>(output: &mut W, slots: &[u32], head: usize, len: usize, out: &mut [u8])
     requires { (length slots.now ≤ most) × (head ≤ length slots.now) × (length out.old ≡ 2048) }
 {
     let w = rows::width_of(slots);
@@ -79,35 +81,35 @@ fn draw_slots(slots: &[u32], head: usize, len: usize, out: &mut [u8])
     while first < slots.len() {
         let last = row_end(first, slots.len());
         let end = put_group(slots, head, len, w, first, last, out);
-        io::write_all(STDOUT_FILENO, &out[0..end]);
+        streams::write_all(output, &out[0..end]);
         first = last;
     }
 }
 
 // The list, eight entries in a line.
-fn draw_list(slots: &[u32], head: usize, len: usize, out: &mut [u8])
+fn draw_list<W: Write>(output: &mut W, slots: &[u32], head: usize, len: usize, out: &mut [u8])
     requires { (length slots.now ≤ most) × (head < length slots.now) × (len ≤ length slots.now) × (length out.old ≡ 2048) }
 {
     let mut first = 0;
     while first < len {
         let last = row_end(first, len);
         let end = rows::put_list_row(slots, head, len, first, last, out, 0);
-        io::write_all(STDOUT_FILENO, &out[0..end]);
+        streams::write_all(output, &out[0..end]);
         first = last;
     }
 }
 
 // The slots and the list, an empty line before each.
-fn draw(slots: &[u32], head: usize, len: usize, out: &mut [u8])
+fn draw<W: Write>(output: &mut W, slots: &[u32], head: usize, len: usize, out: &mut [u8])
     requires { (length slots.now ≤ most) × (head ≤ length slots.now - 1) × (len ≤ length slots.now) × (length out.old ≡ 2048) }
 {
-    draw_slots(slots, head, len, out);
+    draw_slots(output, slots, head, len, out);
     if len == 0 {
-        io::write_all(STDOUT_FILENO, b"\nlist empty\n");
+        streams::write_all(output, b"\nlist empty\n");
         return;
     }
-    io::write_all(STDOUT_FILENO, b"\n");
-    draw_list(slots, head, len, out);
+    streams::write_all(output, b"\n");
+    draw_list(output, slots, head, len, out);
 }
 
 // The ring that the text tells, into the slots.
@@ -129,7 +131,7 @@ fn vector_of(text: &[u8], slots: &mut [u32]) -> vector::Vector
 }
 
 // A ring: its line, and the drawing.
-fn draw_ring(text: &[u8], slots: &mut [u32], out: &mut [u8])
+fn draw_ring<W: Write>(output: &mut W, text: &[u8], slots: &mut [u32], out: &mut [u8])
     requires { Drawable ring text.now slots.old × (length out.old ≡ 2048) }
 {
     let was = faults::field_at(text, 8, 4);
@@ -146,47 +148,47 @@ fn draw_ring(text: &[u8], slots: &mut [u32], out: &mut [u8])
         0,
     );
     end = says::put_older_said(was, head as u64, out, end);
-    io::write_all(STDOUT_FILENO, &out[0..end]);
-    draw(slots, head, len, out);
+    streams::write_all(output, &out[0..end]);
+    draw(output, slots, head, len, out);
 }
 
 // A vector: the same.
-fn draw_vector(text: &[u8], slots: &mut [u32], out: &mut [u8])
+fn draw_vector<W: Write>(output: &mut W, text: &[u8], slots: &mut [u32], out: &mut [u8])
     requires { Drawable vector text.now slots.old × (length out.old ≡ 2048) }
 {
     let v = vector_of(text, slots);
     let len = v.len;
     let total = v.total;
     let end = says::put_vector(slots.len() as u64, len as u64, total.sum, out, 0);
-    io::write_all(STDOUT_FILENO, &out[0..end]);
-    draw(slots, 0, len, out);
+    streams::write_all(output, &out[0..end]);
+    draw(output, slots, 0, len, out);
 }
 
 // The container of a text without a fault.
-fn draw_any(text: &[u8], slots: &mut [u32], out: &mut [u8])
+fn draw_any<W: Write>(output: &mut W, text: &[u8], slots: &mut [u32], out: &mut [u8])
     requires { ((fault text.now).what ≡ 0) × (length slots.old ≡ 4096) × (length out.old ≡ 2048) }
 {
     let kind = faults::field_at(text, 0, 2);
     let cap = faults::field_at(text, 4, 4) as usize;
     let part = &mut slots[0..cap];
     if kind == 0 {
-        draw_ring(text, part, out);
+        draw_ring(output, text, part, out);
     } else {
-        draw_vector(text, part, out);
+        draw_vector(output, text, part, out);
     }
 }
 
 // The container that a text stands for, or its first fault.
-fn show(text: &[u8], slots: &mut [u32], out: &mut [u8])
+fn show<W: Write>(output: &mut W, text: &[u8], slots: &mut [u32], out: &mut [u8])
     requires { (length slots.old ≡ 4096) × (length out.old ≡ 2048) }
 {
     let fault = faults::find(text);
     if fault.what != 0 {
         let end = says::put_fault(fault, out, 0);
-        io::write_all(STDOUT_FILENO, &out[0..end]);
+        streams::write_all(output, &out[0..end]);
         return;
     }
-    draw_any(text, slots, out);
+    draw_any(output, text, slots, out);
 }
 
 // What is lent: a byte more than the longest acceptable text has, to tell that a text goes on; as many slots as a container may have; a group of rows.
@@ -208,15 +210,17 @@ fn out_room() -> [u8; 2048]
     [0; 2048]
 }
 
-fn main() {
+fn main(rt: HostRuntime) {
+    let mut input = rt.stdin();
+    let mut output = rt.stdout();
     let mut text = text_room();
     let mut slots = slots_room();
     let mut out = out_room();
-    let got = fill(&mut text);
+    let got = fill(&mut input, &mut text);
     if got.failed {
-        io::write_all(STDERR_FILENO, b"show: the input can't be read\n");
+        streams::write_all(&mut rt.stderr(), b"show: the input can't be read\n");
         return;
     }
     let held = got.held;
-    show(&text[0..held], &mut slots, &mut out);
+    show(&mut output, &text[0..held], &mut slots, &mut out);
 }

@@ -7,7 +7,7 @@ use native.Mathlib.Nat.{pow-le-pow_right}
 use native.Mathlib.Numerals.{add-one}
 use native.Mathlib.Omega.{arith}
 use borrow.Author.Tests.{eq-eqb, ne_eqb}
-use lib.ListN.{length, take, drop, set, length-take, length-drop}
+use lib.ListN.{length, take, drop, set, length-take}
 use lib.Seq.{drop-drop, take-suc-set, take_all}
 use Rattle.slots.specs.Layout.{most, Kind, ring, vector, slot_of, itself, place, entries}
 use Rattle.slots.specs.Total.{total}

@@ -1,4 +1,6 @@
 // The stored form: a container written as lines of hexadecimal digits into a lent text.
+#![tactic(auto)]
+
 pub mod judges; // judges.rt: whether a text is acceptable
 pub mod readers; // readers.rt: a text read back
 

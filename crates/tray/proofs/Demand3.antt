@@ -7,11 +7,15 @@ use lib.ListN.{length}
 use contract.Lifetimes.{Lfts}
 use denote.Triple.Clauses.{AtExit}
 use borrow.Fn.World.{ArgsD, ResD}
+use denote.RattleType.{RattleType}
+use denote.Param.Laws.{Laws}
+use mir.Syntax.{Dict}
+use Rattle.std.specs.declared.io.traits.Read
+use Rattle.std.specs.declared.io.traits.Write
 use Rattle.table.specs.Ledger.{modelled, entered, handed, dropped}
 use Rattle.table.specs.World.{lines, held, standing_all}
 use Rattle.tray_lines.specs.declared.feeds.State.{State}
 use Rattle.tray_lines.specs.Seen.{world}
-use Rattle.tray_lines.specs.Acts.{begun}
 use Rattle.tray_lines.specs.Feeds.{Midway, Kept, fresh, feeds, keeping, midway}
 use Rattle.tray_lines.specs.Runs.{lines_of, finished, happened}
 use Rattle.tray_lines.proofs.Ran as ran
@@ -24,12 +28,13 @@ use Rattle.tray_lines.proofs.feeds.ended.Reads as ended·reads
 use Rattle.tray.specs.contracts.run as run·fn
 use Rattle.tray.proofs.run.Reads as run·reads
 
--- What `main` calls, in its order, each with what the one before gave back: `start` gave t, `fresh` s, `run` r.
+-- What `main` calls, in its order, each with what the one before gave back: `start` gave t, `fresh` s, `run` r, whatever it reads from and writes to.
 module _ (κs : Lfts 0) (a : ArgsD start·fn.signature κs) (t : ResD start·fn.signature κs) (e : AtExit start·fn.ended κs) (started : start·reads.Learnt κs a t e)
     (κs2 : Lfts 0) (a2 : ArgsD fresh·fn.signature κs2) (s : ResD fresh·fn.signature κs2) (e2 : AtExit fresh·fn.ended κs2)
     (begin : a2.0 ≡ t) (begun_line : fresh·reads.Learnt κs2 a2 s e2)
-    (κs3 : Lfts 2) (a3 : ArgsD run·fn.signature κs3) (r : ResD run·fn.signature κs3) (e3 : AtExit run·fn.ended κs3)
-    (from : a3.0 ≡ s) (read : run·reads.Learnt κs3 a3 r e3) where
+    (R W : RattleType) (R-laws : Laws R) (W-laws : Laws W) (R-read : Read.Ghosts R.Denot) (R-dict : Dict) (W-write : Write.Ghosts W.Denot) (W-dict : Dict)
+    (κs3 : Lfts 6) (a3 : ArgsD (run·fn.signature R W) κs3) (r : ResD (run·fn.signature R W) κs3) (e3 : AtExit (run·fn.ended R W R-read R-dict W-write W-dict) κs3)
+    (from : a3.1.1.0 ≡ s) (read : run·reads.Learnt R W R-laws W-laws R-read R-dict W-write W-dict κs3 a3 r e3) where
   -- some bytes that lead where `run` stands, as many as it counted
   abbrev pub input : List ℕ
   input = read.bytes

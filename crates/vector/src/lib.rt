@@ -1,4 +1,6 @@
 // A vector of entries in lent slots. Each call's promise is its row of the table.
+#![tactic(auto)]
+
 pub mod looks; // looks.rt: the makings, and the calls that change nothing
 pub mod parts; // parts.rt: the parts of the slots that are lent on
 

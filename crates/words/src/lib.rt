@@ -1,4 +1,6 @@
 // Words and decimal numbers, written into a lent text from a place on.
+#![tactic(auto)]
+
 ghost use Rattle.std.specs.Prelude.{◌+◌, ◌≤◌, length};
 ghost use Rattle.words.specs.Words.{decimal, numbered, several};
 ghost use Rattle.words.specs.Wrote.{Wrote};

@@ -6,18 +6,18 @@ use Rattle.words.proofs.Writing.{Left, text_start, text_turn, text_end_law}
 use Rattle.words.proofs.put_text.Statement.{statement}
 use Rattle.words.proofs.put_text.Tie as tie
 
-abbrev invariant_loop : tie.invariant_loop
-invariant_loop text out₀ at i₀ out i = (i ≤ length text) × Left out₀ at text (at + i) (drop i text) out
+abbrev invariant-loop-i : tie.invariant-loop-i
+invariant-loop-i text out₀ at i₀ out i = (i ≤ length text) × Left out₀ at text (at + i) (drop i text) out
 
-abbrev decreases_loop : tie.decreases_loop
-decreases_loop text out₀ at i₀ out i = length text - i
+abbrev decreases-loop-i : tie.decreases-loop-i
+decreases-loop-i text out₀ at i₀ out i = length text - i
 
 pub put_text_spec : {M : Type 1} → statement M
 put_text_spec =
     tie.close
     (tie.spec
-    invariant_loop
-    decreases_loop
+    invariant-loop-i
+    decreases-loop-i
     (λ c. search (text_start, rules))
     (λ c. search rules)
     (λ c. search rules)

@@ -8,18 +8,18 @@ use Rattle.show.proofs.Finding.{leading_none, leading_start, leading_end, leadin
 use Rattle.show.proofs.faults.leading.Statement.{statement}
 use Rattle.show.proofs.faults.leading.Tie as tie
 
-abbrev invariant_loop : tie.invariant_loop
-invariant_loop text at n i₀ i = (i ≤ n) × (at < length text) × (i + leading (n - i) (drop (at + i) text) ≡ leading n (drop at text))
+abbrev invariant-loop-i : tie.invariant-loop-i
+invariant-loop-i text at n i₀ i = (i ≤ n) × (at < length text) × (i + leading (n - i) (drop (at + i) text) ≡ leading n (drop at text))
 
-abbrev decreases_loop : tie.decreases_loop
-decreases_loop text at n i₀ i = n - i
+abbrev decreases-loop-i : tie.decreases-loop-i
+decreases-loop-i text at n i₀ i = n - i
 
 pub leading_spec : {M : Type 1} → statement M
 leading_spec =
     tie.close
     (tie.spec
-    invariant_loop
-    decreases_loop
+    invariant-loop-i
+    decreases-loop-i
     (λ c. search (leading_none, rules))
     (λ c. search (leading_start, rules))
     (λ c. search rules)

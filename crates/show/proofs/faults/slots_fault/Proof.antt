@@ -8,18 +8,18 @@ use Rattle.show.proofs.Finding.{slots_turn, slots_stop, slots_more, slots_end}
 use Rattle.show.proofs.faults.slots_fault.Statement.{statement}
 use Rattle.show.proofs.faults.slots_fault.Tie as tie
 
-abbrev invariant_loop : tie.invariant_loop
-invariant_loop text from count left₀ at₀ line₀ left at line = (line + left ≤ 65538) × (slots_fault line left (drop at text) ≡ slots_fault 2 count (drop from text))
+abbrev invariant-loop-left : tie.invariant-loop-left
+invariant-loop-left text from count left₀ at₀ line₀ left at line = (line + left ≤ 65538) × (slots_fault line left (drop at text) ≡ slots_fault 2 count (drop from text))
 
-abbrev decreases_loop : tie.decreases_loop
-decreases_loop text from count left₀ at₀ line₀ left at line = left
+abbrev decreases-loop-left : tie.decreases-loop-left
+decreases-loop-left text from count left₀ at₀ line₀ left at line = left
 
 pub slots_fault_spec : {M : Type 1} → statement M
 slots_fault_spec =
     tie.close
     (tie.spec
-    invariant_loop
-    decreases_loop
+    invariant-loop-left
+    decreases-loop-left
     (λ c. search rules)
     (λ c κs. search rules)
     (λ c κs. search rules)

@@ -8,10 +8,8 @@ pub put_entry_spec : {M : Type 1} → statement M
 put_entry_spec =
     tie.close
     (tie.spec
-    (λ c. search rules)
     (λ c κs. search rules)
     (λ c κs. search rules)
-    (λ c. search rules)
     (λ c κs. search rules)
     (λ c. search rules)
     (λ c. search (entry_more, rules))

@@ -8,10 +8,8 @@ pub put_held_row_spec : {M : Type 1} → statement M
 put_held_row_spec =
     tie.close
     (tie.spec
-    (λ c. search rules)
     (λ c κs. search rules)
     (λ c κs. search rules)
-    (λ c. search rules)
     (λ c κs. search rules)
     (λ c. search rules)
     (λ c. search (held_row_law, rules)))

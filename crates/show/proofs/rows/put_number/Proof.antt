@@ -13,6 +13,6 @@ put_number_spec =
     (λ c κs. search rules)
     (λ c. search rules)
     (λ c. search rules)
-    (λ c κs. omega (arith, few _ _ c.before.before.before.before.before.ranges.n.fits c.before.before.decimal.ensures.1.0))
+    (λ c κs. omega (arith, few _ _ c.ranges.n.fits c.decimal-k.ensures.1.0))
     (λ c. search rules)
-    (λ c. let d = c.before.before.before.before.before.decimal in (search (number_wrote, rules), omega (arith, few _ _ c.before.before.before.before.before.before.before.before.ranges.n.fits d.ensures.1.0, d.ensures.0.1))))
+    (λ c. let d = c.decimal-k in (search (number_wrote, rules), omega (arith, few _ _ c.ranges.n.fits d.ensures.1.0, d.ensures.0.1))))

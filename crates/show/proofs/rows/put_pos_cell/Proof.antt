@@ -13,7 +13,6 @@ put_pos_cell_spec =
     (λ c. search rules)
     (λ c. search (pos_some, rules))
     (λ c. search rules)
-    (λ c. search rules)
     (λ c κs. search rules)
     (λ c. search rules)
     (λ c. search (pos_none, rules)))

@@ -8,11 +8,9 @@ pub put_word_spec : {M : Type 1} → statement M
 put_word_spec =
     tie.close
     (tie.spec
-    (λ c. search rules)
     (λ c κs. search rules)
     (λ c. search rules)
     (λ c. search (word_first, rules))
-    (λ c. search rules)
     (λ c κs. search rules)
     (λ c. search rules)
     (λ c. search (word_other, rules)))

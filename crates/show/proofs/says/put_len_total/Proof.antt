@@ -8,11 +8,8 @@ pub put_len_total_spec : {M : Type 1} → statement M
 put_len_total_spec =
     tie.close
     (tie.spec
-    (λ c. search rules)
     (λ c κs. search rules)
-    (λ c. search rules)
     (λ c κs. search rules)
-    (λ c. search rules)
     (λ c κs. search rules)
     (λ c. search rules)
     (λ c. search (len_total_wrote, rules)))

@@ -8,9 +8,7 @@ pub put_older_spec : {M : Type 1} → statement M
 put_older_spec =
     tie.close
     (tie.spec
-    (λ c. search rules)
     (λ c κs. search rules)
-    (λ c. search rules)
     (λ c κs. search rules)
     (λ c. search rules)
     (λ c. search (older_wrote, rules)))

@@ -8,11 +8,8 @@ pub put_place_spec : {M : Type 1} → statement M
 put_place_spec =
     tie.close
     (tie.spec
-    (λ c. search rules)
     (λ c κs. search rules)
-    (λ c. search rules)
     (λ c κs. search rules)
-    (λ c. search rules)
     (λ c κs. search rules)
     (λ c. search rules)
     (λ c. search (place_wrote, rules)))

@@ -9,7 +9,6 @@ put_sized_spec =
     tie.close
     (tie.spec
     (λ c κs. search rules)
-    (λ c. search rules)
     (λ c κs. search rules)
     (λ c. search rules)
     (λ c. search (sized_wrote, rules)))

@@ -8,7 +8,6 @@ pub put_vector_spec : {M : Type 1} → statement M
 put_vector_spec =
     tie.close
     (tie.spec
-    (λ c. search rules)
     (λ c κs. search rules)
     (λ c κs. search rules)
     (λ c. search rules)

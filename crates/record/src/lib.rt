@@ -1,4 +1,6 @@
 // Records of comma-separated text (RFC 4180, section 2), read from a lent text: where each field starts and ends goes on two vectors.
+#![tactic(auto)]
+
 pub mod texts; // texts.rt: the calls on a text alone
 mod answers; // answers.rt: the answers on two vectors, and what a record that is read writes
 

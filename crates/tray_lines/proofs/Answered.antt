@@ -1,7 +1,7 @@
 -- The answer's line, put number by number, and its length; and what each thing that a line can say comes to.
 use mathlib.Core.Path.{◌≡◌, refl, sym, ap, ◌∙◌}
 use mathlib.Core.List.{List, [], ◌∷◌, ◌++◌, append-nil}
-use Prim.Native.Nat.{ℕ, ◌+◌, ◌≤◌}
+use Prim.Native.Nat.{ℕ, ◌≤◌}
 use native.Mathlib.Omega.{arith}
 use lib.ListN.{length, set, replicate, length-append, drop_of_length-le}
 use Rattle.digits.specs.Hex.{hex, lf}

@@ -1,4 +1,6 @@
 // What the program `tray` means, with no reading and no writing: a line is a call, a call changes the trays, and the answer is a line.
+#![tactic(auto)]
+
 pub mod lines; // lines.rt: what a line says
 pub mod acts; // acts.rt: what a call does to the four containers
 pub mod answers; // answers.rt: what a line is answered

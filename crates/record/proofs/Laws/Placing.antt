@@ -2,7 +2,7 @@
 -- is found at each place.
 use mathlib.Core.Path.{◌≡◌, refl, sym, ap, ◌∙◌}
 use mathlib.Core.List.{List, [], ◌∷◌}
-use Prim.Native.Nat.{ℕ, suc, ◌+◌, ◌-◌, ◌≤◌, ◌<◌}
+use Prim.Native.Nat.{ℕ, ◌+◌, ◌-◌, ◌≤◌, ◌<◌}
 use native.Mathlib.Nat.{not-suc-le-zero}
 use native.Mathlib.Numerals.{add-one}
 use native.Mathlib.Omega.{arith}
@@ -13,7 +13,7 @@ use Rattle.record.specs.declared.Found.TheVariants.{Field, Unclosed}
 use Rattle.record.specs.declared.Stop.{Stop}
 use Rattle.record.specs.declared.Stop.TheVariants.{Comma, End, Bad}
 use Rattle.record.specs.Places.{firsts, lasts}
-use Rattle.record.specs.Scan.{Ending, Reading, up_to, done, bad, unclosed, scanned}
+use Rattle.record.specs.Scan.{Ending, Reading, up_to, unclosed, scanned}
 use Rattle.record.specs.Steps.{field_at, stop_of, number_of}
 use Rattle.record.proofs.Laws.Spans.{after_field, field_scan}
 use Rattle.record.proofs.Laws.Passing.{from, after_stop, step_scan, bounds, comma_inside}

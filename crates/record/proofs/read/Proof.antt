@@ -1,7 +1,7 @@
 -- `read` meets its promise: what is refused early; else the text is judged, and the rest is settled by what it comes to.
 use Rattle.std.proofs.Common.{sym, ◌∙◌}
 use borrow.Author.Rules.{rules}
-use Rattle.record.proofs.Laws.Saying.{early_refused, short, zero_early, still_sixteen, judged_kept}
+use Rattle.record.proofs.Laws.Saying.{early_refused, short, still_sixteen, judged_kept}
 use Rattle.record.proofs.read.Statement.{statement}
 use Rattle.record.proofs.read.Tie as tie
 

@@ -1,26 +1,26 @@
 -- A field's text lies within the lent bytes, and is the field's own bytes; what an answer tells of a place lies in the text, and a record that is
 -- settled has bytes.
-use mathlib.Core.Path.{◌≡◌, refl, sym, ap, ◌∙◌}
-use mathlib.Core.Bool.{Bool, true, false, not, cond, ◌&&◌}
-use mathlib.Core.List.{List, [], ◌∷◌, ◌++◌}
-use Prim.Native.Nat.{ℕ, ◌+◌, ◌-◌, ◌≤◌, ◌<◌}
+use mathlib.Core.Path.{◌≡◌, refl, ap, ◌∙◌}
+use mathlib.Core.Bool.{Bool, true, false, not, cond}
+use mathlib.Core.List.{List, ◌++◌}
+use Prim.Native.Nat.{ℕ, ◌-◌, ◌≤◌, ◌<◌}
 use native.Mathlib.Omega.{arith}
-use borrow.Author.Tests.{le-ltb, le-leb, ltb-false}
+use borrow.Author.Tests.{le-ltb, le-leb}
 use lib.Dec.{ltb}
-use lib.ListN.{length, take, drop, length-append, length-drop}
+use lib.ListN.{length, take, drop, length-append}
 use lib.Seq.{take-append_seam}
 use Rattle.table.specs.Tray.{within}
 use Rattle.record.specs.declared.texts.Told.{Told}
-use Rattle.record.specs.Scan.{Ending, done, bad, unclosed, Reading, up_to, scanned}
+use Rattle.record.specs.Scan.{Ending, done, bad, unclosed, up_to, scanned}
 use Rattle.record.specs.Steps.{number_of, place_of}
 use Rattle.record.specs.Undone.{undone, part}
-use Rattle.record.specs.Unquoted.{Unquoted, unquoted, before, Unquotes, unquotes}
+use Rattle.record.specs.Unquoted.{Unquoted, unquoted, Unquotes, unquotes}
 use Rattle.record.specs.Recorded.{longest, told, judges}
 use Rattle.import.specs.Lines.{field_line}
 use Rattle.words.specs.Wrote.{Wrote}
 use Rattle.record.proofs.Laws.Inside.{place_inside}
 use Rattle.record.proofs.Theorems.Sound.{sound}
-use Rattle.record.proofs.Theorems.Decided.{ReadsLine, Used, used, Ended, by_line, by_text, ended}
+use Rattle.record.proofs.Theorems.Decided.{used, Ended, by_line, by_text, ended}
 
 -- no more bytes than there are
 Sized : Unquoted → Type 0

@@ -1,5 +1,5 @@
 -- What the window holds after reads: the bytes that it held stay, and it is full unless the input ended or failed. Which bytes a read gave no
--- contract of the C library says.
+-- contract says.
 use Rattle.std.specs.Prelude.{ℕ, ◌≤◌, ◌≡◌, false, List, length, take}
 use Rattle.import.specs.declared.Filled.{Filled}
 

@@ -1,4 +1,6 @@
 // Reads comma-separated text from standard input and writes its records, field by field.
+#![tactic(auto)]
+
 mod prints; // prints.rt: the lines that are printed
 mod counts; // counts.rt: what is counted, and when an answer is settled
 mod windows; // windows.rt: the window that is read into, and the output that is collected
@@ -7,7 +9,7 @@ mod takes; // takes.rt: the record at the front of a text
 ghost use Rattle.std.specs.Prelude.{◌≡◌, ◌≤◌, ◌<◌, length};
 ghost use Rattle.import.specs.Sheets.{Started, Begun, Stands, Turned, Sane};
 
-use libc::{STDERR_FILENO, STDOUT_FILENO};
+use std::io::{Read, Write};
 
 // No run passes so many bytes.
 const ENOUGH: u64 = 18446744073709420543; // 2^64 − 131073
@@ -44,13 +46,6 @@ struct Taken {
     refused: bool,
     sheet: Sheet,
     said: Said,
-}
-
-// What one read gave: how many bytes, and whether it failed.
-#[derive(Clone, Copy)]
-struct Got {
-    count: usize,
-    failed: bool,
 }
 
 // The window once it is filled: how many bytes it holds, whether the input ended with them, and whether it failed there.
@@ -94,7 +89,9 @@ fn ending_of(f: Filled, t: Taken) -> u8
 }
 
 // One window: its settled records are taken, the rest is moved to the front, and it is filled again.
-fn turn(
+fn turn<R: Read, W: Write>(
+    input: &mut R,
+    output: &mut W,
     window: &mut [u8],
     slots: &mut [u32],
     theirs: &mut [u32],
@@ -109,7 +106,16 @@ fn turn(
     let f = s.filled;
     let first = s.taken;
     let held = f.held;
-    let mut t = takes::take_all(&window[0..held], f.ended, slots, theirs, field, out, first);
+    let mut t = takes::take_all(
+        output,
+        &window[0..held],
+        f.ended,
+        slots,
+        theirs,
+        field,
+        out,
+        first,
+    );
     let ending = ending_of(f, t);
     if ending != 0 {
         return Stand {
@@ -120,7 +126,7 @@ fn turn(
     }
     let next = t.next;
     windows::shift(window, next, held);
-    let filled = windows::fill(window, held - next);
+    let filled = windows::fill(input, window, held - next);
     t.next = 0;
     Stand {
         filled,
@@ -162,7 +168,9 @@ fn started(mark: usize, at: usize) -> Taken
 }
 
 // Window after window, until it ends. No run passes so many bytes that it stops before: a proved loop has to end, and the counts must fit.
-fn run(
+fn run<R: Read, W: Write>(
+    input: &mut R,
+    output: &mut W,
     window: &mut [u8],
     slots: &mut [u32],
     theirs: &mut [u32],
@@ -172,7 +180,7 @@ fn run(
     requires { (length window.old ≤ 65536) × (length slots.old ≡ length theirs.old) × (length field.old ≤ 65535) × (262145 ≤ length out.old) }
     ensures { Stands result (length window.old) (length out.old) }
 {
-    let filled = windows::fill(window, 0);
+    let filled = windows::fill(input, window, 0);
     let held = filled.held;
     let taken = begin(&window[0..held], out);
     let mut s = Stand {
@@ -183,7 +191,7 @@ fn run(
     let mut go = true;
     let mut passed = passed_by(s);
     while go && passed < ENOUGH {
-        s = turn(window, slots, theirs, field, out, s);
+        s = turn(input, output, window, slots, theirs, field, out, s);
         go = s.ending == 0;
         passed = passed_by(s);
     }
@@ -199,7 +207,7 @@ fn passed_by(s: Stand) -> u64
 }
 
 // A record that the window does not hold is refused, at its first byte.
-fn too_long(s: Stand, out: &mut [u8]) -> Said
+fn too_long<W: Write>(output: &mut W, s: Stand, out: &mut [u8]) -> Said
     requires { (s.taken.said.at ≤ length out.old) × (262145 ≤ length out.old) × Sane s.taken.sheet }
     ensures { result.at ≤ length out.old }
 {
@@ -212,7 +220,7 @@ fn too_long(s: Stand, out: &mut [u8]) -> Said
     if sheet.records == u64::MAX {
         return said;
     }
-    let r = windows::room(said, 120, out);
+    let r = windows::room(output, said, 120, out);
     let heard = r.heard;
     let at = prints::put_refused(sheet.records + 1, sheet.line, sheet.byte, 11, out, r.at);
     Said { at, heard }
@@ -230,10 +238,11 @@ fn words_of(ending: u8) -> u8 {
 }
 
 // The last line, and all that is left to write; an input that failed is said to the standard error.
-fn finish(s: Stand, out: &mut [u8])
+fn finish<W: Write, E: Write>(output: &mut W, error: &mut E, s: Stand, out: &mut [u8])
     requires { (s.taken.said.at ≤ length out.old) × (262145 ≤ length out.old) × Sane s.taken.sheet }
 {
-    let said = windows::room(too_long(s, out), 120, out);
+    let refused = too_long(output, s, out);
+    let said = windows::room(output, refused, 120, out);
     let t = s.taken;
     let sheet = t.sheet;
     let words = words_of(s.ending);
@@ -246,10 +255,10 @@ fn finish(s: Stand, out: &mut [u8])
         said.at,
     );
     if said.heard {
-        io::write_all(STDOUT_FILENO, &out[0..end]);
+        streams::write_all(output, &out[0..end]);
     }
     if words == 2 {
-        io::write_all(STDERR_FILENO, b"import: the input can't be read\n");
+        streams::write_all(error, b"import: the input can't be read\n");
     }
 }
 
@@ -279,12 +288,23 @@ fn out_room() -> [u8; 524288]
     [0; 524288]
 }
 
-fn main() {
+fn main(rt: HostRuntime) {
+    let mut input = rt.stdin();
+    let mut output = rt.stdout();
+    let mut error = rt.stderr();
     let mut window = window_room();
     let mut slots = slots_room();
     let mut theirs = slots_room();
     let mut field = field_room();
     let mut out = out_room();
-    let s = run(&mut window, &mut slots, &mut theirs, &mut field, &mut out);
-    finish(s, &mut out);
+    let s = run(
+        &mut input,
+        &mut output,
+        &mut window,
+        &mut slots,
+        &mut theirs,
+        &mut field,
+        &mut out,
+    );
+    finish(&mut output, &mut error, s, &mut out);
 }

@@ -5,10 +5,12 @@ ghost use Rattle.import.specs.Settled.{Settles};
 ghost use Rattle.import.specs.Sheets.{Fit, Took, Says, Went};
 
 use super::{Said, Sheet, Spot, Taken};
+use std::io::Write;
 use vector::Vector;
 
 // A field's line: its text, with doubled quotes undone, as it is shown.
-pub(crate) fn say_field(
+pub(crate) fn say_field<W: Write>(
+    output: &mut W,
     text: &[u8],
     start: u32,
     end: u32,
@@ -19,7 +21,7 @@ pub(crate) fn say_field(
     requires { (said.at ≤ length out.old) × (262145 ≤ length out.old) × (length field.old ≤ 65535) }
     ensures { Says text.now start end field.old out.old result out.new }
 {
-    let s = super::windows::room(said, 262145, out);
+    let s = super::windows::room(output, said, 262145, out);
     let heard = s.heard;
     let told = record::texts::field_text(text, start as usize, end as usize, field);
     let n = told.value as usize;
@@ -28,7 +30,8 @@ pub(crate) fn say_field(
 }
 
 // The lines of a record's fields, as long as the output takes them.
-pub(crate) fn say_fields(
+pub(crate) fn say_fields<W: Write>(
+    output: &mut W,
     text: &[u8],
     slots: &[u32],
     theirs: &[u32],
@@ -44,7 +47,7 @@ pub(crate) fn say_fields(
     let mut i = 0;
     let mut go = s.heard;
     while go && i < n {
-        s = say_field(text, slots[i], theirs[i], field, out, s);
+        s = say_field(output, text, slots[i], theirs[i], field, out, s);
         go = s.heard;
         i += 1;
     }
@@ -52,7 +55,8 @@ pub(crate) fn say_fields(
 }
 
 // A refusal, for the byte at a place: its line, and nothing is taken.
-pub(crate) fn refuse(
+pub(crate) fn refuse<W: Write>(
+    output: &mut W,
     text: &[u8],
     number: u8,
     at: usize,
@@ -68,7 +72,7 @@ pub(crate) fn refuse(
         byte: sheet.byte,
     };
     let spot = super::counts::spot_behind(&text[0..at], first);
-    let s = super::windows::room(said, 120, out);
+    let s = super::windows::room(output, said, 120, out);
     let heard = s.heard;
     let end = super::prints::put_refused(
         sheet.records + 1,
@@ -87,7 +91,8 @@ pub(crate) fn refuse(
 }
 
 // A record that is taken: its line and its fields'.
-pub(crate) fn list(
+pub(crate) fn list<W: Write>(
+    output: &mut W,
     text: &[u8],
     next: usize,
     slots: &[u32],
@@ -108,10 +113,19 @@ pub(crate) fn list(
     };
     let spot = super::counts::spot_behind(&text[0..next], first);
     let after = super::counts::counted(sheet, n as u64, next as u64, spot);
-    let s = super::windows::room(said, 100, out);
+    let s = super::windows::room(output, said, 100, out);
     let heard = s.heard;
     let at = super::prints::put_record(after.records, n as u64, after.first, out, s.at);
-    let all = say_fields(text, slots, theirs, n, field, out, Said { at, heard });
+    let all = say_fields(
+        output,
+        text,
+        slots,
+        theirs,
+        n,
+        field,
+        out,
+        Said { at, heard },
+    );
     Taken {
         next,
         refused: false,
@@ -126,7 +140,8 @@ fn empty() -> Vector {
 }
 
 // The record at the front of a text, by an answer on it that is settled: listed, or refused.
-pub(crate) fn take_settled(
+pub(crate) fn take_settled<W: Write>(
+    output: &mut W,
     text: &[u8],
     number: u8,
     at: usize,
@@ -142,18 +157,21 @@ pub(crate) fn take_settled(
     ensures { Took sheet (length text.now) (length out.old) result }
 {
     if number != 0 {
-        return refuse(text, number, at, sheet, out, said);
+        return refuse(output, text, number, at, sheet, out, said);
     }
     let got = record::read(text, empty(), slots, empty(), theirs);
     if got.number != 0 {
-        return refuse(text, 6, 0, sheet, out, said);
+        return refuse(output, text, 6, 0, sheet, out, said);
     }
     let v = got.first;
-    list(text, at, slots, theirs, v.len, field, sheet, out, said)
+    list(
+        output, text, at, slots, theirs, v.len, field, sheet, out, said,
+    )
 }
 
 // The record at the front of a text, if it is settled.
-pub(crate) fn take(
+pub(crate) fn take<W: Write>(
+    output: &mut W,
     text: &[u8],
     last: bool,
     slots: &mut [u32],
@@ -171,6 +189,7 @@ pub(crate) fn take(
     let at = seen.value as usize;
     if super::counts::settled(text, last, seen.number, at) {
         return take_settled(
+            output,
             text,
             seen.number,
             at,
@@ -199,7 +218,8 @@ pub(crate) fn goes_on(t: Taken) -> bool
 }
 
 // The settled records at the front of the window, one after another; whole says that the input ends with it. Next is then where the rest begins.
-pub(crate) fn take_all(
+pub(crate) fn take_all<W: Write>(
+    output: &mut W,
     window: &[u8],
     whole: bool,
     slots: &mut [u32],
@@ -220,6 +240,7 @@ pub(crate) fn take_all(
         let sheet = t.sheet;
         let said = t.said;
         t = take(
+            output,
             &window[at..end],
             whole & (end == window.len()),
             slots,

@@ -2,11 +2,12 @@
 ghost use Rattle.std.specs.Prelude.{◌≡◌, ◌+◌, ◌-◌, ◌≤◌, length, take, drop};
 ghost use Rattle.import.specs.Window.{Fills};
 
-use super::{Filled, Got, Said};
-use libc::{STDIN_FILENO, STDOUT_FILENO};
+use super::{Filled, Said};
+use std::io::{Read, Write};
+use streams::Got;
 
 // Room for so many bytes more: what is collected is written, if need be.
-pub(crate) fn room(said: Said, need: usize, out: &[u8]) -> Said
+pub(crate) fn room<W: Write>(output: &mut W, said: Said, need: usize, out: &[u8]) -> Said
     requires { (said.at ≤ length out.now) × (need ≤ length out.now) }
     ensures { result.at + need ≤ length out.now }
 {
@@ -14,7 +15,7 @@ pub(crate) fn room(said: Said, need: usize, out: &[u8]) -> Said
     if need <= out.len() - at {
         return said;
     }
-    let heard = io::write_all(STDOUT_FILENO, &out[0..at]);
+    let heard = streams::write_all(output, &out[0..at]);
     Said {
         at: 0,
         heard: said.heard & heard,
@@ -22,20 +23,16 @@ pub(crate) fn room(said: Said, need: usize, out: &[u8]) -> Said
 }
 
 // One read, behind the bytes that the window holds.
-pub(crate) fn read_at(window: &mut [u8], at: usize) -> Got
+pub(crate) fn read_at<R: Read>(input: &mut R, window: &mut [u8], at: usize) -> Got
     requires { at ≤ length window.old }
     ensures { (at + result.count ≤ length window.old) × (take at window.new ≡ take at window.old) }
 {
     let part = &mut window[at..];
-    let got = libc::read(STDIN_FILENO, part);
-    Got {
-        count: io::count(got, part),
-        failed: got < 0,
-    }
+    streams::read(input, part)
 }
 
 // Reads until the window is full, or the input ends or fails. The bytes that it holds stay.
-pub(crate) fn fill(window: &mut [u8], held: usize) -> Filled
+pub(crate) fn fill<R: Read>(input: &mut R, window: &mut [u8], held: usize) -> Filled
     requires { held ≤ length window.old }
     ensures { Fills window.old held result window.new }
 {
@@ -43,7 +40,7 @@ pub(crate) fn fill(window: &mut [u8], held: usize) -> Filled
     let mut more = true;
     let mut failed = false;
     while more && at < window.len() {
-        let got = read_at(window, at);
+        let got = read_at(input, window, at);
         at += got.count;
         more = 0 < got.count;
         failed = got.failed;

@@ -8,7 +8,7 @@ use borrow.Author.Tests.{eq-eqb, ne_eqb}
 use lib.ListN.{length, take, drop}
 use Rattle.digits.specs.Hex.{are_digits, number_in}
 use Rattle.digits.proofs.Fields.{field_says}
-use Rattle.replay.specs.declared.lines.Verdict.{Verdict}
+use Rattle.replay.specs.declared.asked.Verdict.{Verdict}
 use Rattle.replay.specs.Lines.{is_known, takes_entry, is_beyond, reaches, takes, is_taken}
 
 -- unknown, beyond, or taken

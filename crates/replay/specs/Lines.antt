@@ -1,8 +1,8 @@
 -- Which lines of `replay` can be taken.
 use Rattle.std.specs.Prelude.{ℕ, Bool, true, false, not, ◌&&◌, ◌||◌, List, length, take, drop, eqb, ltb, leb}
 use Rattle.digits.specs.Hex.{are_digits, says}
-use Rattle.replay.specs.declared.lines.Verdict.{Verdict}
-use Rattle.replay.specs.declared.lines.Verdict.TheVariants.{Placing, Call, Damaged, Unknown, Beyond}
+use Rattle.replay.specs.declared.asked.Verdict.{Verdict}
+use Rattle.replay.specs.declared.asked.Verdict.TheVariants.{Placing, Call, Damaged, Unknown, Beyond}
 
 -- from one number to another, both with it
 abbrev pub among : (op a b : ℕ) → Bool

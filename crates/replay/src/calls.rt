@@ -1,8 +1,8 @@
-// The calls, by the numbers that docs/REPLAY.md gives them. lines.rt lets no number through that stands for none, so the last call of a family
+// The calls, by the numbers that docs/REPLAY.md gives them. asked.rt lets no number through that stands for none, so the last call of a family
 // needs no test of its own.
 use crate::answers::Did;
+use crate::asked::Asked;
 use crate::desks::Desk;
-use crate::lines::Asked;
 use cursors::Cursor;
 use ring::Ring;
 use vector::Vector;

@@ -1,7 +1,7 @@
 // What stands on the desk, two containers, a cursor and a text, and what is placed there.
 ghost use Rattle.std.specs.Prelude.{◌≤◌};
 
-use crate::lines::Asked;
+use crate::asked::Asked;
 use cursors::Cursor;
 use ring::Ring;
 use runs::total;
@@ -77,7 +77,7 @@ pub(crate) fn lay(slots: &mut [u32], at: usize, x: u32) {
     }
 }
 
-// Operations 01 to 0b: lines.rt lets no other through.
+// Operations 01 to 0b: asked.rt lets no other through.
 pub(crate) fn place(
     q: Asked,
     mut desk: Desk,

@@ -1,5 +1,5 @@
 // What a part that a vector lends shows beside the answer: its entries.
-use crate::lines::Asked;
+use crate::asked::Asked;
 use vector::Vector;
 
 // The entries as they were lent; how many there are.

@@ -2,8 +2,8 @@
 ghost use Rattle.std.specs.Prelude.{◌≤◌, length};
 
 use crate::answers::Did;
+use crate::asked::Asked;
 use crate::desks::{Desk, least};
-use crate::lines::Asked;
 
 // Each byte of a part is -.
 fn dash(part: &mut [u8]) {

@@ -28,11 +28,16 @@ pub record RingOrder (c n : ℕ) (lay : ℕ → ℕ) : Type 0 where
   pub first : 0 < n → lay 0 < c
   pub next : (p : ℕ) → suc p < n → lay (suc p) ≡ slot_of c (lay p) 1
 
+-- where the first entry stands, and that each stands in the slot after the one before it, tells where all stand
+in_turn : (c n : ℕ) (lay : ℕ → ℕ) → (0 < n → lay 0 < c) → ((p : ℕ) → suc p < n → lay (suc p) ≡ slot_of c (lay p) 1)
+    → (p : ℕ) → p < n → lay p ≡ slot_of c (lay 0) p
+in_turn c n lay first next zero lt = sym (slot_zero c (lay 0) (first lt))
+in_turn c n lay first next (suc p) lt =
+    next p lt ∙ ap (λ s. slot_of c s 1) (in_turn c n lay first next p (omega arith)) ∙ slot_slot c (lay 0) p 1 ∙ ap (slot_of c (lay 0)) (omega arith)
+
 -- such a layout is that of a head, the slot of the first entry; and every head's is one
 pub ordered : (c n : ℕ) (lay : ℕ → ℕ) → RingOrder c n lay → (p : ℕ) → p < n → lay p ≡ slot_of c (lay 0) p
-ordered c n lay r zero lt = sym (slot_zero c (lay 0) (r.first lt))
-ordered c n lay r (suc p) lt =
-    r.next p lt ∙ ap (λ s. slot_of c s 1) (ordered c n lay r p (omega arith)) ∙ slot_slot c (lay 0) p 1 ∙ ap (slot_of c (lay 0)) (omega arith)
+ordered c n lay r = in_turn c n lay r.first r.next
 
 pub head_ordered : (c n g : ℕ) → g < c → RingOrder c n (slot_of c g)
 head_ordered c n g lt = record { first = λ some. slot_inside c g 0 lt; next = λ p h. ap (slot_of c g) (omega arith) ∙ sym (slot_slot c g p 1) }
@@ -54,7 +59,7 @@ module _ (call : Call) (t : Tray) (o : Outcome) (promised : o ≡ does ring call
       let b = best call t o promised of done in
       ⊎_elim
       (λ (some : 0 < o.tray.len).
-      rw (same_laid lay (slot_of (cap t) (lay 0)) (ordered _ _ lay r)) (b.least (lay 0) (any_slot t o _ (lay 0) b.permitted some (r.first some))))
+      rw (same_laid lay (slot_of (cap t) (lay 0)) (in_turn _ _ lay r.first r.next)) (b.least (lay 0) (any_slot t o _ (lay 0) b.permitted some (r.first some))))
       (λ (none : o.tray.len ≤ 0). rw (same_laid lay (slot_of (cap t) o.tray.head) (λ p lt. absurd (omega arith))) (b.least _ b.permitted))
       (below? 0 o.tray.len)
 

@@ -42,7 +42,7 @@ module _ (t : Tray) (i : ℕ) where
   insert_room x =
       bounded (insert i x) t _ (λ e.
       let free : t.len < cap t = omega passed_tests in
-      omega (arith, insert_half x))
+      omega (arith, insert_moves t e.0 i x (omega passed_tests) free))
 
   pub remove_room : (does ring (remove i) t).moves ≤ (cap t - 1) / 2
   remove_room = bounded (remove i) t _ (λ e. omega (arith, remove_half, (fit ring t e.0).fits))

@@ -105,7 +105,14 @@ module _ (h h' a b g w : ℕ) (counts : Counts h h' a b g w) where
         three_ways (λ e q. inl (e ∙ sym (back (omega arith) (omega arith)))) (λ e q. inr (omega arith, inl e)) (λ q. absurd (some (omega arith))))
         (same? a 0))
         (λ (uneven : a ≡ b → ⊥).
-        ⊎_elim (λ (e : g ≡ chosen). inl e) (λ (ne : g ≡ chosen → ⊥). absurd (omega (arith, all_more uneven ne))) (same? g chosen))
+        ⊎_elim
+        (λ (e : g ≡ chosen). inl e)
+        (λ (ne : g ≡ chosen → ⊥).
+        ⊎_elim
+        (λ (lt : a < b). three_ways (λ e q. absurd (omega arith)) (λ e q. absurd (ne (e ∙ sym (front lt)))) (λ q. absurd (omega arith)))
+        (λ (ge : b ≤ a). three_ways (λ e q. absurd (ne (e ∙ sym (back ge (omega arith))))) (λ e q. absurd (omega arith)) (λ q. absurd (omega arith)))
+        (below? a b))
+        (same? g chosen))
         (same? a b)
 
     pub is_good : AsGood chosen h' a b g → w ≡ min a b

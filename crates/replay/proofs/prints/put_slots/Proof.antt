@@ -6,18 +6,18 @@ use lib.ListN.{length}
 use Rattle.replay.proofs.prints.put_slots.Statement.{statement}
 use Rattle.replay.proofs.prints.put_slots.Tie as tie
 
-abbrev invariant_loop : tie.invariant_loop
-invariant_loop out₀ from slots at₀ i₀ out at i = length out ≡ length out₀
+abbrev invariant-loop-i : tie.invariant-loop-i
+invariant-loop-i out₀ from slots at₀ i₀ out at i = length out ≡ length out₀
 
-abbrev decreases_loop : tie.decreases_loop
-decreases_loop out₀ from slots at₀ i₀ out at i = length slots - i
+abbrev decreases-loop-i : tie.decreases-loop-i
+decreases-loop-i out₀ from slots at₀ i₀ out at i = length slots - i
 
 pub put_slots_spec : {M : Type 1} → statement M
 put_slots_spec =
     tie.close
     (tie.spec
-    invariant_loop
-    decreases_loop
+    invariant-loop-i
+    decreases-loop-i
     (λ c. search rules)
     (λ c. search rules)
     (λ c. search rules)

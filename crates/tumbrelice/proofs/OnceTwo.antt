@@ -6,7 +6,6 @@ use mathlib.Core.List.{List}
 use contract.Lifetimes.{Lfts}
 use Rattle.slots.specs.Layout.{Kind}
 use Rattle.slots.proofs.Twice.{Twice}
-use Rattle.table.specs.Tray.{nowhere}
 use Rattle.table.specs.Calls.{Call2}
 use Rattle.table.specs.Does.{Outcome2}
 use Rattle.record.specs.declared.texts.Told.{Told}

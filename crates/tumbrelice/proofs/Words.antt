@@ -9,7 +9,7 @@ use Rattle.slots.specs.Layout.{Kind, ring, vector}
 use Rattle.table.specs.Tray.{Tray, list, invalid, Cursor, nowhere}
 use Rattle.table.specs.Calls.{Call, Look, look, Making, has}
 use Rattle.table.specs.Table.{after}
-use Rattle.table.specs.Does.{Outcome, refused, done, does, row_of, refusals_of, made}
+use Rattle.table.specs.Does.{Outcome, refused, done, does, row_of, refusals_of}
 use Rattle.table.specs.Reported.{no_slot, reported}
 use Rattle.table.specs.Totals.{total_after}
 use Rattle.table.specs.Within.{does_within}

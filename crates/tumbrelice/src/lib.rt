@@ -1,6 +1,8 @@
 // The calls as C or Rust may link them. A container's state is passed by a pointer to its numbers, 64 bits each: a ring's are head, length and total, a vector's
 // length and total. Slots go in as a pointer and their number. The answer is one word, packed by what can occur: the value in the low 32 bits, the slot in the next
 // 16, the moves in the next 12, the number in the high 4.
+#![tactic(auto)]
+
 pub mod makings; // makings.rt: a ring or a vector on lent slots
 pub mod rings; // rings.rt: the calls on a ring
 pub mod vectors; // vectors.rt: the calls on a vector

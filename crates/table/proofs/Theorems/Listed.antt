@@ -17,7 +17,7 @@ use Rattle.table.proofs.Theorems.Refused.{call_settled, call_clear, two_settled,
 use Rattle.table.proofs.Theorems.StaysValid.{Leaves, call_leaves, two_leave, made_leaves}
 
 -- The tray t has come to be the tray now, whose list is l and whose head is h. The last three say what each slot s holds: its position was
--- pos .. t.head s, among t .len entries, and is pos .. now.head s.
+-- pos .. t.head s, among t.len entries, and is pos .. now.head s.
 pub record Afterwards (k : Kind) (t : Tray) (l : List ℕ) (h : ℕ) (now : Tray) : Type 0 where
   pub listed : list k now ≡ l
   pub head : now.head ≡ h

@@ -100,7 +100,7 @@ Holds k no_entry was now y s = s ≡ no_slot
 
 holds_at : (k : Kind) (t : Tray) → invalid k t ≡ false → (p y : ℕ) → p < length (list k t) → get_or (list k t) p 0 ≡ y
     → HoldsAt k t p y (place k (cap t) t.head p)
-holds_at k t ok p y in_List is =
+holds_at k t ok p y in_list is =
     let f = fit k t ok in
     let n_is = many k t in
     let inside : p < t.len = omega arith in

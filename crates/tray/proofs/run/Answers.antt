@@ -1,3 +1,4 @@
+-- Where `run` stands: nothing was read before the first turn, each turn adds what it read, and each that is not the last has a byte.
 use Rattle.std.proofs.Common.{rules}
 use Rattle.tray.proofs.Reading.{none_read, one_more, fewer}
 use Rattle.tray.proofs.run.Goals as goal

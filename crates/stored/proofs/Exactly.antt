@@ -5,6 +5,7 @@ use mathlib.Core.Bool.{Bool, true, false, not, cond, ◌||◌}
 use mathlib.Core.List.{List, ◌++◌}
 use Prim.Native.Nat.{ℕ, zero, suc, ◌*◌, ◌≤◌, ◌<◌}
 use native.Mathlib.Omega.{arith}
+use Rattle.std.proofs.lemmas.Bool.Decides.{nat_tests}
 use borrow.Author.Tests.{eq-eqb, eqb-true, le-leb, leb-true, lt-ltb, ltb-true}
 use lib.Dec.{ltb, eqb}
 use lib.ListN.{length, drop, length-drop}
@@ -81,7 +82,7 @@ module _ (k : Kind) (t : Tray) (s : Shaped k t) where
       let line : is_line 16 (form k t) ≡ true = ap (is_line 16) text_is ∙ pieces.first_is (kind_byte k) (cap t) t.head t.len (slot_lines t.slots) in
       let none : field 2 2 (form k t) ≡ 0 = ap (field 2 2) text_is ∙ pieces.zero_found (kind_byte k) (cap t) t.head t.len (slot_lines t.slots) in
       let long : length (form k t) ≡ size (field 4 4 (form k t)) = length_form k t ∙ ap size (sym cap_is) in
-      rw (line, eq-eqb _ _ kind_is, eq-eqb _ _ none, eq-eqb _ _ long)
+      rw (line, eq-eqb _ _ kind_is, none, eq-eqb _ _ long)
 
   judge_form : stands k (cap t) t.head t.len ≡ true → judge k (form k t) ≡ true
   unfolding judge
@@ -156,8 +157,8 @@ opened kind text e =
     record {
       line = line_parts 16 text (and_left _ _ e);
       kinded = eqb-true _ _ (and_left _ _ a);
-      none = eqb-true _ _ (and_left _ _ b);
-      long = eqb-true _ _ (and_right (eqb (field 2 2 text) 0) _ b);
+      none = grind (arith, nat_tests);
+      long = grind (arith, nat_tests);
     }
 
 module _ (k : Kind) (text : List ℕ) (ok : judge k text ≡ true) where

@@ -23,10 +23,10 @@ low_spec =
     decreases-loop-i
     (λ c. search (low_many, none_small))
     (λ c. search rules)
-    (λ c. record { fits = times_fits _ _ c.before.loop-i.invariant.2 (omega arith) })
+    (λ c. record { fits = omega (arith, times_fits _ _ c.before.loop-i.invariant.2 (omega arith)) })
     (λ c. search rules)
     (λ c κs. search rules)
-    (λ c. record { fits = fits _ _ _ c.before.before.before.loop-i.invariant.2 c.low_of.ensures.1 (omega arith) })
+    (λ c. record { fits = omega (arith, fits _ _ _ c.before.before.before.loop-i.invariant.2 c.low_of.ensures.1 (omega arith)) })
     (λ c. search rules)
     (λ c. search rules)
     (λ c. search (low_turn, grows, rules))

@@ -16,6 +16,7 @@ pub struct Told {
 }
 
 // What a text comes to: where the next record starts, or where this one goes wrong.
+#[tactic(auto, using(crate::proofs::Laws::Saying::judged_long, crate::proofs::Laws::Saying::judged, crate::proofs::Laws::Saying::place_fits))]
 pub fn judge(text: &[u8]) -> Told
     ensures { result ≡ judges text.now }
 {
@@ -64,6 +65,7 @@ fn undone_size(part: &[u8]) -> usize
 }
 
 // They are written to the start of the lent text.
+#[tactic(auto, using(crate::proofs::Laws::Undoing::none_undone, crate::proofs::Laws::Undoing::room_left, crate::proofs::Laws::Undoing::less_left, crate::proofs::Laws::Undoing::all_undone))]
 fn put_undone(part: &[u8], out: &mut [u8])
     requires { length (undone part.now) ≤ length out.old }
     ensures { out.new ≡ sets out.old 0 (undone part.now) }

@@ -14,7 +14,7 @@ settle_spec =
     (λ c. search (few_starts, rules))
     (λ c κs. search rules)
     (λ c. search (few_ends, rules))
-    (λ c. record { fits = search (value_fits, rules) })
+    (λ c. record { fits = search (value_fits, few_slots_law, rules) })
     (λ c κs. search (reads_well, few_slots_law, few_slots_too, rules))
     (λ c. search rules)
     (λ c. search rules)

@@ -1,85 +1,140 @@
--- A step is made where it is returned, and `seen` computes on it; what iter and from_iter answer is made by a function, as other answers are.
+-- An answer about a cursor is an outcome of its row: the laws that the proofs of all calls cite, for any kind of container.
 use mathlib.Core.Path.{◌≡◌, refl, sym, ap, ◌∙◌}
-use mathlib.Core.List.{List}
-use Prim.Native.Nat.{ℕ, ◌^◌, ◌≤◌, ◌<◌}
+use mathlib.Core.Bool.{Bool, true, false, not, ◌&&◌}
+use mathlib.Core.List.{List, [], ◌∷◌}
+use Prim.Native.Nat.{ℕ, ◌-◌, ◌^◌, ◌≤◌, ◌<◌}
 use native.Mathlib.Omega.{arith}
-use lib.ListN.{drop}
+use lib.Dec.{ltb, leb, eqb}
+use borrow.Author.Tests.{leb-true, not-false}
+use lib.ListN.{length, drop}
+use Rattle.std.specs.Prelude.{Ok, Err}
 use Rattle.slots.specs.Layout.{Kind, vector, place, itself, entries}
+use Rattle.slots.specs.Copy.{Laid}
 use Rattle.slots.specs.Total.{total, changed}
 use Rattle.runs.specs.declared.total.Total.{Total}
-use Rattle.runs.specs.Width.{summing}
-use Rattle.table.specs.Tray.{Tray, cap, nowhere}
-use Rattle.table.specs.Calls.{Call, Call2, from_iter}
-use Rattle.table.specs.Does.{refused, refused2, does, does2}
-use Rattle.table.proofs.Laws.Stops.{stops, is_astray, not_astray, in_order, in_reach}
-use Rattle.table.proofs.Laws.Refusals
-use Rattle.table.proofs.Laws.Looks.{shows}
-use Rattle.table.proofs.Laws.Done2.{fills}
+use Rattle.table.specs.Tray.{Tray, cap, list, invalid, within}
+use Rattle.table.specs.Table.{look_row, holding, beyond, empty, number_of, Refusal as Named}
+use Rattle.table.specs.Tested.{Stopped}
+use Rattle.table.specs.Calls.{Call, Look, look, from_iter}
+use Rattle.table.specs.Does.{Outcome, refused, refused2, row_of, does, does2}
+use Rattle.table.specs.Answers.{number_in, told, numbered}
+use Rattle.table.specs.declared.answers.Answer.{Answer}
+use Rattle.table.specs.declared.answers.Both.{Both}
+use Rattle.table.specs.declared.answers.Refusal.{Refusal}
+use Rattle.table.specs.declared.answers.Refusal.TheVariants.{Invalid, SecondInvalid, Beyond, Empty, Taken, Full}
+use Rattle.table.proofs.Laws.Refusals.{Clear}
+use Rattle.table.proofs.Laws.Valid.{and_left, and_right}
+use Rattle.table.proofs.Laws.Stops.{meets}
+use Rattle.table.proofs.Laws.Looks.{shows, look_done}
+use Rattle.table.proofs.Laws.Done2.{from_iter_none_done, from_iter_done}
 use Rattle.table.proofs.Laws.Totalling.{second_is, second_same, copies_rest}
 use Rattle.vector.specs.declared.Vector.{Vector}
-use Rattle.vector.specs.Seen.{tray}
-use Rattle.ring.proofs.Told as rings
-use Rattle.vector.proofs.Told as vectors
-use Rattle.cursors.specs.declared.Cursor.{Cursor}
-use Rattle.cursors.specs.declared.Begun.{Begun}
-use Rattle.cursors.specs.declared.Taken.{Taken}
-use Rattle.cursors.specs.Seen.{cursor, seen_begun, beginning, seen_into, taking, filling, Starts, Takes}
+use Rattle.vector.specs.Seen.{tray, state}
+use Rattle.containers.specs.Reading.{head_of}
+use Rattle.containers.proofs.Homes.{home}
+use Rattle.cursors.specs.declared.Cursor as code
+use Rattle.cursors.specs.Seen.{cursor, seen, seen_into, why_no_step, Steps, Takes}
 
-pub starts : (k : Kind) (call : Call) (t : Tray) (a : Begun) (m back : ℕ) → a ≡ beginning m back → seen_begun a t ≡ does k call t → Starts k call t a
-starts k call t a m back is e = record { row = e; slot = ap (λ a. a.slot) is }
+-- What the call q of the cursor u gives back is the cursor given: refused, by the first test that holds, or done.
+module _ (k : Kind) (t : Tray) (u : code.Cursor) (q : Look) (given : (row_of k (look q) t).given ≡ cursor u) where
+  refusing : (e : Refusal) → refused t (cursor u) (number_in e) ≡ does k (look q) t → Steps k (look q) t u (Err e)
+  refusing e is = record { row = is; slot = refl }
 
--- T is the one that was given: a refusal, or nothing remains
-pub takes_kept : (k : Kind) (call : Call2) (t : Tray) (w : Vector) (z : List ℕ) (a : Taken) (m : ℕ) (u : Cursor) → a ≡ taking m u w
-    → seen_into a t z ≡ does2 k vector call t (tray w z) → w.total.sum < 2 ^ 64 → Takes k call t w z a z
-takes_kept k call t w z a m u is e small =
-    let e' : seen_into (taking m u w) t z ≡ does2 k vector call t (tray w z) = ap (λ a. seen_into a t z) (sym is) ∙ e in
-    record {
-      row = e;
-      slot = ap (λ a. a.slot) is;
-      total = ap (λ a. a.vector.total.sum) is ∙ second_same k vector call t (tray w z) _ 0 w.total.sum e' refl small;
-    }
+  pub is_invalid : invalid k t ≡ true → Steps k (look q) t u (Err Invalid)
+  unfolding does
+  is_invalid bad = refusing Invalid (rw (bad, given) refl)
 
--- T gets what remains, and its total what that adds up to; 0 stands for the container's total, which is not touched
-pub takes : (k : Kind) (u : Cursor) (t : Tray) (w : Vector) (z : List ℕ) (a : Taken) (theirs : List ℕ) (n d : ℕ)
-    → a ≡ filling u.back u.back n (summing (changed w.total.sum d 0))
-    → d ≡ total (drop u.front (entries (place k (cap t) t.head) u.back t.slots)) → u.back ≤ t.len → w.len ≡ 0
-    → seen_into a t theirs ≡ does2 k vector (from_iter (cursor u)) t (tray w z) → Takes k (from_iter (cursor u)) t w z a theirs
-takes k u t w z a theirs n d is part fits empty e =
-    let sum : ℕ = changed w.total.sum d 0 in
-    let e' : seen_into (filling u.back u.back n (summing sum)) t theirs ≡ does2 k vector (from_iter (cursor u)) t (tray w z) = ap (λ a. seen_into a t theirs) (sym is) ∙ e in
-    let c = copies_rest (cursor u) (place k (cap t) t.head) itself t.len w.len d 0 w.total.sum sum t.slots z (omega arith) fits empty part refl in
-    record {
-      row = e;
-      slot = ap (λ a. a.slot) is;
-      total = ap (λ a. a.vector.total.sum) is ∙ second_is k vector (from_iter (cursor u)) t (tray w z) _ 0 w.total.sum e' 0 sum refl c;
-    }
+  pub by_first : (e : Refusal) (a : Bool) (named : Named) (rest : List (Bool × Named)) → (row_of k (look q) t).refusals ≡ (a, named) ∷ rest
+      → number_of named ≡ number_in e → invalid k t ≡ false → a ≡ true → Steps k (look q) t u (Err e)
+  unfolding does
+  by_first e a named rest refusals number ok holds = refusing e (rw (refusals, ok, holds, number, given) refl)
 
-pub stopped : (t : Tray) (a : Begun) (m : ℕ) → a ≡ beginning m 0 → seen_begun a t ≡ refused t nowhere m
-stopped t a m e = ap (λ a. seen_begun a t) e
+  pub by_second : (e : Refusal) (a b : Bool) (one named : Named) (rest : List (Bool × Named)) → (row_of k (look q) t).refusals ≡ (a, one) ∷ (b, named) ∷ rest
+      → number_of named ≡ number_in e → invalid k t ≡ false → a ≡ false → b ≡ true → Steps k (look q) t u (Err e)
+  unfolding does
+  by_second e a b one named rest refusals number ok passes holds = refusing e (rw (refusals, ok, passes, holds, number, given) refl)
 
-pub started : (t : Tray) (a : Begun) (back : ℕ) → a ≡ beginning 0 back → seen_begun a t ≡ shows t 0 (record { front = 0; back = back })
-started t a back e = ap (λ a. seen_begun a t) e
+  -- of a step, whose one test s has failed
+  pub has_no_step : (s : Bool) (e : Refusal) → (row_of k (look q) t).refusals ≡ (not (within u.front u.back t.len), beyond) ∷ (eqb u.front u.back, empty) ∷ []
+      → Stopped k (cap t) t.head t.len (ltb u.front u.back && leb u.back t.len) s → s ≡ true → e ≡ why_no_step k (cap t) t.head t.len u → Steps k (look q) t u (Err e)
+  has_no_step s e refusals stopped stop is = go (invalid k t) (not (within u.front u.back t.len)) refl refl
+    where
+      go : (b a : Bool) → invalid k t ≡ b → not (within u.front u.back t.len) ≡ a → Steps k (look q) t u (Err e)
+      go true a bad ea = let e1 : e ≡ Invalid = is ∙ rw bad refl in rw e1 (is_invalid bad)
+      go false true ok out = let e1 : e ≡ Beyond = is ∙ rw (ok, out) refl in rw e1 (by_first Beyond _ beyond _ refusals refl ok out)
+      go false false ok inside =
+          let e1 : e ≡ Empty = is ∙ rw (ok, inside) refl in
+          let both = not-false (within u.front u.back t.len) inside in
+          let ended = meets k (cap t) t.head t.len u.front u.back s (invalid k t) stopped stop refl ok (leb-true _ _ (and_left _ _ both))
+          (leb-true _ _ (and_right (leb u.front u.back) _ both)) in
+          rw e1 (by_second Empty _ _ beyond empty _ refusals refl ok inside ended)
 
-pub answered : (u : Cursor) (v : Vector) (t : Tray) (s2 : List ℕ) (a : Taken) (m : ℕ) → a ≡ taking m u v
-    → seen_into a t s2 ≡ refused2 t (tray v s2) (cursor u) m
-answered u v t s2 a m e = ap (λ a. seen_into a t s2) e
+  pub is_done : (a : Answer code.Cursor) (value : ℕ) (v : code.Cursor) → invalid k t ≡ false → head_of k t.head ≡ t.head → Clear (row_of k (look q) t).refusals
+      → a ≡ told value 0 v → value ≡ (look_row (cap t) t.len (list k t) q).value → cursor v ≡ (look_row (cap t) t.len (list k t) q).cursor → Steps k (look q) t u (Ok a)
+  is_done a value v ok headed clear is ev ev2 =
+      record { row = look_done k t _ ok (home k t headed ok) q clear (ap (λ a. seen (numbered u (Ok a)) t) is ∙ rw (ev, ev2) refl); slot = ap (λ a. a.slot) is }
 
-pub told : (t : Tray) (s2 : List ℕ) (a : Taken) (n back : ℕ) (sum : Total) → a ≡ filling back back n sum → seen_into a t s2 ≡ fills t n s2 back
-told t s2 a n back sum e = ap (λ a. seen_into a t s2) e
+-- A call that shows an entry: the law of its row says that what is shown is what the row says.
+pub is_shown : (k : Kind) (t : Tray) (u : code.Cursor) (call : Call) (a : Answer code.Cursor) (value : ℕ) (v : code.Cursor) → a ≡ told value 0 v
+    → ((o : Outcome) → o ≡ shows t value (cursor v) → o ≡ does k call t) → Steps k call t u (Ok a)
+is_shown k t u call a value v is law = record { row = law _ (ap (λ a. seen (numbered u (Ok a)) t) is); slot = ap (λ a. a.slot) is }
 
--- nothing remains, and all comes back as it was
-pub told_none : (u : Cursor) (v : Vector) (t : Tray) (s2 : List ℕ) (a : Taken) → a ≡ taking 0 u v → v.len ≡ 0 → u.front ≡ u.back
-    → seen_into a t s2 ≡ fills t 0 s2 u.back
-told_none u v t s2 a e empty ended = ap (λ a. seen_into a t s2) e ∙ cc
+-- from_iter by the cursor u on the container t, with T the vector w on the slots z. Where it is refused, by the first test that holds, and where nothing remains,
+-- all is left as it was.
+module _ (k : Kind) (t : Tray) (u : code.Cursor) (w : Vector) (z : List ℕ) (small : w.total.sum < 2 ^ 64) where
+  not_taking : (e : Refusal) → refused2 t (tray w z) (cursor u) (number_in e) ≡ does2 k vector (from_iter (cursor u)) t (tray w z)
+      → Takes k (from_iter (cursor u)) t u w z (Err e) z
+  not_taking e is = record { row = is; slot = refl; total = second_same k vector (from_iter (cursor u)) t (tray w z) _ 0 w.total.sum is refl small }
 
-pub ruleset refusals = (starts, stopped, stops, Refusals.refusals)
+  pub takes_of_none : invalid k t ≡ true → Takes k (from_iter (cursor u)) t u w z (Err Invalid) z
+  unfolding does2
+  takes_of_none bad = not_taking Invalid (rw bad refl)
 
-pub ruleset shown = (starts, started, rings.home, vectors.home, stops, Refusals.tests)
+  module _ (ok : invalid k t ≡ false) where
+    pub takes_to_none : invalid vector (tray w z) ≡ true → Takes k (from_iter (cursor u)) t u w z (Err SecondInvalid) z
+    unfolding does2
+    takes_to_none bad = not_taking SecondInvalid (rw (ok, bad) refl)
 
--- of from_iter, which makes each test by itself: fewer rules, since its proof holds more facts
-pub ruleset into_refusals = (takes_kept, answered, is_astray, not_astray, Refusals.refusals)
+    module _ (ok2 : invalid vector (tray w z) ≡ false) where
+      pub takes_beyond : not (within u.front u.back t.len) ≡ true → Takes k (from_iter (cursor u)) t u w z (Err Beyond) z
+      unfolding does2
+      takes_beyond astray = not_taking Beyond (rw (ok, ok2, astray) refl)
 
--- of a ring's where nothing remains, and of one that fills T
-pub ruleset into_none = (takes_kept, told_none, rings.home, in_order, in_reach, Refusals.tests)
+      pub takes_to_taken : not (within u.front u.back t.len) ≡ false → holding w.len ≡ true → Takes k (from_iter (cursor u)) t u w z (Err Taken) z
+      unfolding does2
+      takes_to_taken inside held = not_taking Taken (rw (ok, ok2, inside, held) refl)
 
-pub ruleset into_shown = (takes, told, rings.home, vectors.home, in_order, in_reach, Refusals.tests)
+      pub takes_too_many : not (within u.front u.back t.len) ≡ false → holding w.len ≡ false → ltb (length z) (u.back - u.front) ≡ true
+          → Takes k (from_iter (cursor u)) t u w z (Err Full) z
+      unfolding does2
+      takes_too_many inside free short = not_taking Full (rw (ok, ok2, inside, free, short) refl)
+
+      module _ (headed : head_of k t.head ≡ t.head) (ordered : u.front ≤ u.back) (fits : u.back ≤ t.len) (empty : w.len ≡ 0) where
+        pub takes_nothing : (a : Answer (Both code.Cursor Vector)) → u.front ≡ u.back → a ≡ told 0 0 (record { first = u; second = w })
+            → Takes k (from_iter (cursor u)) t u w z (Ok a) z
+        takes_nothing a ended is =
+            let row = from_iter_none_done k t (tray w z) _ ok ok2 (cursor u) ordered fits empty (home k t headed ok) ended
+            (ap (λ a. seen_into (numbered (record { first = u; second = w }) (Ok a)) t z) is ∙ cc) in
+            record {
+              row = row;
+              slot = ap (λ a. a.slot) is;
+              total = ap (λ a. a.state.second.total.sum) is ∙ second_same k vector (from_iter (cursor u)) t (tray w z) _ 0 w.total.sum
+                  (ap (λ a. seen_into (numbered (record { first = u; second = w }) (Ok a)) t z) (sym is) ∙ row) refl small;
+            }
+
+        -- T gets what remains, and its total what that adds up to; 0 stands for the container's total, which is not touched
+        pub takes_rest : (a : Answer (Both code.Cursor Vector)) (v : Vector) (by sum : Total) (theirs : List ℕ) → u.back - u.front ≤ length z
+            → Laid itself 0 (u.back - u.front) (drop u.front (entries (place k (cap t) t.head) u.back t.slots)) z theirs
+            → by.sum ≡ total (drop u.front (entries (place k (cap t) t.head) u.back t.slots)) → sum.sum ≡ changed w.total.sum by.sum 0
+            → v ≡ state (u.back - u.front) sum → a ≡ told 0 0 (record { first = record { front = u.back; back = u.back }; second = v })
+            → Takes k (from_iter (cursor u)) t u w z (Ok a) theirs
+        takes_rest a v by sum theirs room laid part more ev is =
+            let row = from_iter_done k t (tray w z) _ ok ok2 (cursor u) theirs ordered fits empty (home k t headed ok) room laid
+            (ap (λ a. seen_into (numbered (record { first = u; second = w }) (Ok a)) t theirs) is ∙ rw ev refl) in
+            let flow = copies_rest (cursor u) (place k (cap t) t.head) itself t.len w.len by.sum 0 w.total.sum sum.sum t.slots z (omega arith) fits empty part more in
+            record {
+              row = row;
+              slot = ap (λ a. a.slot) is;
+              total = ap (λ a. a.state.second.total.sum) is ∙ rw ev
+                  (second_is k vector (from_iter (cursor u)) t (tray w z) _ 0 w.total.sum row 0 sum.sum (ap (λ a. 0) is) flow);
+            }

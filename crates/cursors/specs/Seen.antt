@@ -1,78 +1,54 @@
--- How the code's cursor and answers are read: the number, value and cursor of paper 01 for each case.
-use Rattle.std.specs.Prelude.{ℕ, ◌≡◌, List}
+-- How the code's cursor and answers are read: an answer's state is a cursor, which a refusal gives back, and paper 01's number and value are those of its case.
+use Rattle.std.specs.Prelude.{ℕ, ◌≡◌, cond, not, List, Result}
 use Rattle.slots.specs.Layout.{Kind, vector}
-use Rattle.table.specs.Tray.{Tray, Cursor}
-use Rattle.table.specs.Table.{first_invalid, beyond, empty, number_of}
+use Rattle.table.specs.Tray.{Tray, Cursor, valid, within}
 use Rattle.table.specs.Calls.{Call, Call2}
 use Rattle.table.specs.Does.{Outcome, Outcome2, does, does2}
-use Rattle.runs.specs.declared.total.Total.{Total}
 use Rattle.table.specs.Reported.{no_slot}
+use Rattle.table.specs.Answers.{numbered}
 use Rattle.table.specs.Totals.{total_second}
+use Rattle.table.specs.declared.answers.Answer.{Answer}
+use Rattle.table.specs.declared.answers.Both.{Both}
+use Rattle.table.specs.declared.answers.Numbered.{Numbered}
+use Rattle.table.specs.declared.answers.Refusal.{Refusal}
+use Rattle.table.specs.declared.answers.Refusal.TheVariants.{Invalid, Beyond, Empty}
 use Rattle.vector.specs.declared.Vector.{Vector}
-use Rattle.vector.specs.Seen.{tray, state}
+use Rattle.vector.specs.Seen.{tray}
 use Rattle.cursors.specs.declared.Cursor as code
-use Rattle.cursors.specs.declared.Begun.{Begun}
-use Rattle.cursors.specs.declared.Taken.{Taken}
-use Rattle.cursors.specs.declared.Step.{Step}
-use Rattle.cursors.specs.declared.Step.TheVariants.{Entry, Invalid, Astray, Ended}
 
 abbrev pub cursor : code.Cursor → Cursor
 cursor u = record { front = u.front; back = u.back }
 
--- an entry is number 0 with its value; a refusal has its own number, value 0 and the cursor given
-abbrev pub number_in : Step → ℕ
-number_in (Entry x u) = 0
-number_in (Invalid u) = number_of first_invalid
-number_in (Astray u) = number_of beyond
-number_in (Ended u) = number_of empty
+-- the cursor that a refused iter gives
+abbrev pub none : code.Cursor
+none = record { front = 0; back = 0 }
 
-abbrev pub value_in : Step → ℕ
-value_in (Entry x u) = x
-value_in (Invalid u) = 0
-value_in (Astray u) = 0
-value_in (Ended u) = 0
-
-abbrev pub cursor_in : Step → Cursor
-cursor_in (Entry x u) = cursor u
-cursor_in (Invalid u) = cursor u
-cursor_in (Astray u) = cursor u
-cursor_in (Ended u) = cursor u
-
--- a step or a peek with the container, which it leaves as it was
-abbrev pub seen : Step → Tray → Outcome
-seen s t = record { number = number_in s; value = value_in s; moves = 0; tray = t; cursor = cursor_in s }
-
--- an enum's case has no room for a slot, and no step or peek has one to report
-abbrev pub slot_in : Step → ℕ
-slot_in s = no_slot
-
--- iter and into_iter, likewise
-abbrev pub seen_begun : Begun → Tray → Outcome
-seen_begun a t = record { number = a.number; value = 0; moves = 0; tray = t; cursor = cursor a.cursor }
+-- an answer about a cursor, with the container, which it leaves as it was
+abbrev pub seen : Numbered code.Cursor → Tray → Outcome
+seen a t = record { number = a.number; value = a.value; moves = a.moves; tray = t; cursor = cursor a.state }
 
 -- from_iter: the container stays as it was; T is a vector
-abbrev pub seen_into : Taken → Tray → List ℕ → Outcome2
+abbrev pub seen_into : Numbered (Both code.Cursor Vector) → Tray → List ℕ → Outcome2
 seen_into a t theirs =
-    record { number = a.number; value = 0; moves = 0; first = t; second = tray a.vector theirs; cursor = cursor a.cursor }
+    record { number = a.number; value = a.value; moves = a.moves; first = t; second = tray a.state.second theirs; cursor = cursor a.state.first }
 
--- The promise of iter and into_iter on the container t: the answer is the row, and reports no slot.
-pub record Starts (k : Kind) (call : Call) (t : Tray) (a : Begun) : Type 0 where
-  pub row : seen_begun a t ≡ does k call t
-  pub slot : a.slot ≡ no_slot
+-- The promise of a step or a peek by the cursor u on the container t: the answer is the row, and reports no slot.
+pub record Steps (k : Kind) (call : Call) (t : Tray) (u : code.Cursor) (a : Result (Answer code.Cursor) Refusal) : Type 0 where
+  pub row : seen (numbered u a) t ≡ does k call t
+  pub slot : (numbered u a).slot ≡ no_slot
 
--- The promise of from_iter on the container t and the vector T, whose slots held z and then hold `theirs`: the answer is the row and reports no slot, and T has
--- the total, as it comes from the one that was given.
-pub record Takes (k : Kind) (call : Call2) (t : Tray) (second : Vector) (z : List ℕ) (a : Taken) (theirs : List ℕ) : Type 0 where
-  pub row : seen_into a t theirs ≡ does2 k vector call t (tray second z)
-  pub slot : a.slot ≡ no_slot
-  pub total : a.vector.total.sum ≡ total_second k vector call t (tray second z) second.total.sum
+-- of iter and into_iter, which are given no cursor
+abbrev pub Starts : (k : Kind) (call : Call) (t : Tray) (a : Result (Answer code.Cursor) Refusal) → Type 0
+Starts k call t a = Steps k call t none a
 
--- what the private functions `began`, `took` and `filled` answer
-abbrev pub beginning : (number back : ℕ) → Begun
-beginning number back = record { number = number; slot = no_slot; cursor = record { front = 0; back = back } }
+-- The promise of from_iter by the cursor u on the container t and the vector T, whose slots held z and then hold `theirs`: the answer is the row and reports no
+-- slot, and T has the total, as it comes from the one that was given.
+pub record Takes (k : Kind) (call : Call2) (t : Tray) (u : code.Cursor) (second : Vector) (z : List ℕ)
+    (a : Result (Answer (Both code.Cursor Vector)) Refusal) (theirs : List ℕ) : Type 0 where
+  pub row : seen_into (numbered (record { first = u; second = second }) a) t theirs ≡ does2 k vector call t (tray second z)
+  pub slot : (numbered (record { first = u; second = second }) a).slot ≡ no_slot
+  pub total : (numbered (record { first = u; second = second }) a).state.second.total.sum ≡ total_second k vector call t (tray second z) second.total.sum
 
-abbrev pub taking : ℕ → code.Cursor → Vector → Taken
-taking number u v = record { number = number; slot = no_slot; cursor = u; vector = v }
-
-abbrev pub filling : (front back count : ℕ) → Total → Taken
-filling front back count total = taking 0 (record { front = front; back = back }) (state count total)
+-- of the private function `no_step`: the container is none, or the cursor is astray, or else it has ended
+abbrev pub why_no_step : (k : Kind) (c h n : ℕ) (u : code.Cursor) → Refusal
+why_no_step k c h n u = cond (not (valid k c h n)) Invalid (cond (not (within u.front u.back n)) Beyond Empty)

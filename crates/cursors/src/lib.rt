@@ -1,16 +1,16 @@
-// Cursors by value over a ring or a vector: what a step, a peek, iter and from_iter answer.
+// Cursors by value over a ring or a vector: what a step, a peek, iter and from_iter answer. Any cursor at all may be given: without front <= back <= n it is
+// refused.
+// A container's state and its slots come one by one, as C passes them.
 #![tactic(auto)]
 
-pub mod over_ring; // over_ring.rt: a cursor's calls over a ring
-pub mod over_vector; // over_vector.rt: a cursor's calls over a vector
+ghost use Rattle.std.specs.Prelude.{◌≡◌};
+ghost use Rattle.table.specs.Calls.{look, iter, into_iter, step_front, step_back, peek_front, peek_back, from_iter};
+ghost use Rattle.containers.specs.Reading.{tray_by};
+ghost use Rattle.cursors.specs.Seen.{cursor, why_no_step, Starts, Steps, Takes};
 
-ghost use Rattle.std.specs.Prelude.{◌≡◌, ◌^◌, ◌<◌};
-ghost use Rattle.slots.specs.Total.{changed};
-ghost use Rattle.runs.specs.Width.{summing};
-ghost use Rattle.cursors.specs.Seen.{beginning, taking, filling};
-
+use containers::Container;
 use runs::total;
-use runs::total::Total;
+use table::answers::{Answer, Both, Refusal};
 use vector::Vector;
 
 #[derive(Clone, Copy)]
@@ -19,61 +19,169 @@ pub struct Cursor {
     pub back: usize,
 }
 
-// What a step or a peek answers: the entry with the cursor afterwards, or a refusal with the cursor given.
-#[derive(Clone, Copy)]
-pub enum Step {
-    Entry(u32, Cursor),
-    // The container is invalid: 1.
-    Invalid(Cursor),
-    // Without front <= back <= n, or a peek past what remains: 3.
-    Astray(Cursor),
-    // A step of an ended cursor: 4.
-    Ended(Cursor),
-}
-
-// What iter and into_iter answer; the cursor of a refused one is 0, 0.
-#[derive(Clone, Copy)]
-pub struct Begun {
-    pub number: u8,
-    pub slot: usize,
-    pub cursor: Cursor,
-}
-
-// What from_iter answers: the cursor afterwards, and T.
-#[derive(Clone, Copy)]
-pub struct Taken {
-    pub number: u8,
-    pub slot: usize,
-    pub cursor: Cursor,
-    pub vector: Vector,
-}
-
-fn began(number: u8, back: usize) -> Begun
-    ensures { result ≡ beginning number back }
-{
-    Begun {
-        number,
-        slot: slots::NO_SLOT,
-        cursor: Cursor { front: 0, back },
+impl Cursor {
+    // The cursor over all entries.
+    pub fn iter<C: Container>(over: C, slots: &[u32]) -> Result<Answer<Cursor>, Refusal>
+        ensures { Starts C.reads.kind (look iter) (tray_by C.reads over slots.now) result }
+    {
+        if over.is_invalid(slots.len()) {
+            return Err(Refusal::Invalid);
+        }
+        let back = over.len();
+        Ok(Answer::telling(0, 0, Cursor { front: 0, back }))
     }
-}
 
-// That the total of T is one of 64 bits is said here, where the proof of a from_iter that leaves T as it was finds it.
-fn took(number: u8, cursor: Cursor, vector: Vector) -> Taken
-    ensures { (result ≡ taking number cursor vector) × (vector.total.sum < 2 ^ 64) }
-{
-    Taken {
-        number,
-        slot: slots::NO_SLOT,
-        cursor,
-        vector,
+    pub fn into_iter<C: Container>(over: C, slots: &[u32]) -> Result<Answer<Cursor>, Refusal>
+        ensures { Starts C.reads.kind (look into_iter) (tray_by C.reads over slots.now) result }
+    {
+        Cursor::iter(over, slots) // upstream's name for a container that is given away
     }
-}
 
-// A from_iter that is done: the cursor afterwards, how many entries T has, the total that it came with, and what the entries add up to.
-fn filled(front: usize, back: usize, count: usize, total: Total, by: Total) -> Taken
-    ensures { result ≡ filling front back count (summing (changed total.sum by.sum 0)) }
-{
-    let to = vector::state(count, total::more(total, by));
-    took(0, Cursor { front, back }, to)
+    // Why a step, at either end, is refused: it is asked once the call's one test has failed.
+    fn no_step<C: Container>(self, over: C, cap: usize) -> Refusal
+        ensures { result ≡ why_no_step C.reads.kind cap (C.reads.head over) (C.reads.size over) self }
+    {
+        if over.is_invalid(cap) {
+            return Refusal::Invalid;
+        }
+        if table::astray(self.front, self.back, over.len()) {
+            return Refusal::Beyond;
+        }
+        Refusal::Empty
+    }
+
+    // The entry at the front, and the cursor moved past it.
+    pub fn step_front<C: Container>(self, over: C, slots: &[u32]) -> Result<Answer<Cursor>, Refusal>
+        ensures { Steps C.reads.kind (look (step_front (cursor self))) (tray_by C.reads over slots.now) self result }
+    {
+        let cap = slots.len();
+        let Cursor { front, back } = self;
+        if over.has_no_step(cap, front, back) {
+            return Err(self.no_step(over, cap));
+        }
+        let at = over.slot(cap, front);
+        let rest = Cursor {
+            front: front + 1,
+            back,
+        };
+        Ok(Answer::telling(slots[at], 0, rest))
+    }
+
+    // The same at the back.
+    pub fn step_back<C: Container>(self, over: C, slots: &[u32]) -> Result<Answer<Cursor>, Refusal>
+        ensures { Steps C.reads.kind (look (step_back (cursor self))) (tray_by C.reads over slots.now) self result }
+    {
+        let cap = slots.len();
+        let Cursor { front, back } = self;
+        if over.has_no_step(cap, front, back) {
+            return Err(self.no_step(over, cap));
+        }
+        let at = over.slot(cap, back - 1);
+        let rest = Cursor {
+            front,
+            back: back - 1,
+        };
+        Ok(Answer::telling(slots[at], 0, rest))
+    }
+
+    // The k-th entry from the front, and the cursor stays.
+    pub fn peek_front<C: Container>(
+        self,
+        over: C,
+        slots: &[u32],
+        k: usize,
+    ) -> Result<Answer<Cursor>, Refusal>
+        ensures { Steps C.reads.kind (look (peek_front (cursor self) k)) (tray_by C.reads over slots.now) self result }
+    {
+        let cap = slots.len();
+        if over.is_invalid(cap) {
+            return Err(Refusal::Invalid);
+        }
+        let Cursor { front, back } = self;
+        if table::astray(front, back, over.len()) {
+            return Err(Refusal::Beyond);
+        }
+        if back - front <= k {
+            return Err(Refusal::Beyond);
+        }
+        let at = over.slot(cap, front + k);
+        Ok(Answer::telling(slots[at], 0, self))
+    }
+
+    // The same from the back. The tests stand in both: a function of their own would have to promise again all that the slot asks, in more lines than it takes away.
+    pub fn peek_back<C: Container>(
+        self,
+        over: C,
+        slots: &[u32],
+        k: usize,
+    ) -> Result<Answer<Cursor>, Refusal>
+        ensures { Steps C.reads.kind (look (peek_back (cursor self) k)) (tray_by C.reads over slots.now) self result }
+    {
+        let cap = slots.len();
+        if over.is_invalid(cap) {
+            return Err(Refusal::Invalid);
+        }
+        let Cursor { front, back } = self;
+        if table::astray(front, back, over.len()) {
+            return Err(Refusal::Beyond);
+        }
+        if back - front <= k {
+            return Err(Refusal::Beyond);
+        }
+        let at = over.slot(cap, back - 1 - k);
+        Ok(Answer::telling(slots[at], 0, self))
+    }
+
+    // The empty vector T gets the remaining entries, and the cursor ends. T may come with any total, which they are added to. Where nothing remains there may be no
+    // slot to start from.
+    pub fn from_iter<C: Container>(
+        self,
+        over: C,
+        slots: &[u32],
+        to: Vector,
+        theirs: &mut [u32],
+    ) -> Result<Answer<Both<Cursor, Vector>>, Refusal>
+        ensures { Takes C.reads.kind (from_iter (cursor self)) (tray_by C.reads over slots.now) self to theirs.old result theirs.new }
+    {
+        let cap = slots.len();
+        if over.is_invalid(cap) {
+            return Err(Refusal::Invalid);
+        }
+        let room = theirs.len();
+        let held = to.len;
+        if table::invalid_vector(room, held) {
+            return Err(Refusal::SecondInvalid);
+        }
+        let Cursor { front, back } = self;
+        if table::astray(front, back, over.len()) {
+            return Err(Refusal::Beyond);
+        }
+        if held != 0 {
+            return Err(Refusal::Taken);
+        }
+        if room < back - front {
+            return Err(Refusal::Full);
+        }
+        if front == back {
+            return Ok(Answer::telling(
+                0,
+                0,
+                Both {
+                    first: self,
+                    second: to,
+                },
+            ));
+        }
+        let by = over.bring(slots, front, back, theirs);
+        let second = vector::state(back - front, total::more(to.total, by));
+        let ended = Cursor { front: back, back };
+        Ok(Answer::telling(
+            0,
+            0,
+            Both {
+                first: ended,
+                second,
+            },
+        ))
+    }
 }

@@ -8,6 +8,7 @@ use native.Mathlib.Numerals.{add-one}
 use native.Mathlib.Omega.{arith}
 use borrow.Author.Tests.{leb-true, leb-false, ltb-true, ltb-false, le-leb, lt-leb}
 use lib.Dec.{leb, ltb}
+use Rattle.std.specs.List.{fold}
 use lib.ListN.{length, get_or, drop, drop_of_length-le}
 use lib.Seq.{drop-cons}
 use Rattle.digits.specs.Hex.{is_digit, are_digits, worth, says_from, says, number_in}
@@ -47,26 +48,19 @@ range b e = go (leb 48 b && ltb b 58) refl e
       high = λ h. (leb-true 97 b (and_left _ _ q), ltb-true b 103 (and_right (leb 97 b) _ q));
     }
 
--- of a loop that tests all bytes: whether one was no digit, with those that are left, is always whether one of all is
-pub bad_turn : (s : List ℕ) (i : ℕ) (v bad d : Bool) → bad || not (are_digits (drop i s)) ≡ v → i < length s → d ≡ not (is_digit (get_or s i 0))
-    → (bad || d) || not (are_digits (drop (i + 1) s)) ≡ v
-bad_turn s i v bad d is h e = rw e (go bad (is_digit (get_or s i 0)) (are_digits (drop (i + 1) s))) ∙ sym (ap (λ l. bad || not (are_digits l)) (left s i h)) ∙ is
+-- all bytes tested, one after another
+pub none_other : (s : List ℕ) → not (fold (λ bad b. bad || not (is_digit b)) false s) ≡ are_digits s
+none_other s = go false s
   where
-    go : (a b c : Bool) → (a || not b) || not c ≡ a || not (b && c)
-    go true b c = refl
-    go false true c = refl
-    go false false c = refl
+    step : (a b c : Bool) → not (a || not b) && c ≡ not a && (b && c)
+    step true b c = refl
+    step false true c = refl
+    step false false c = refl
 
-pub bad_end : (s : List ℕ) (i : ℕ) (bad : Bool) → bad || not (are_digits (drop i s)) ≡ not (are_digits s) → length s ≤ i → not bad ≡ are_digits s
-bad_end s i bad is h = ap not (go bad ∙ sym (ap (λ l. bad || not (are_digits l)) (none_left s i h)) ∙ is) ∙ twice (are_digits s)
-  where
-    go : (b : Bool) → b ≡ b || false
-    go true = refl
-    go false = refl
-
-    twice : (b : Bool) → not (not b) ≡ b
-    twice true = refl
-    twice false = refl
+    go : (bad : Bool) (s : List ℕ) → not (fold (λ bad b. bad || not (is_digit b)) bad s) ≡ not bad && are_digits s
+    go true [] = refl
+    go false [] = refl
+    go bad (b ∷ s) = go (bad || not (is_digit b)) s ∙ step bad (is_digit b) (are_digits s)
 
 -- of a loop that reads low bits, byte after byte: x is what was read
 pub low_turn : (s : List ℕ) (i x w v : ℕ) → lows_from x (drop i s) ≡ v → i < length s → w ≡ low_of (get_or s i 0) → lows_from (x * 16 + w) (drop (i + 1) s) ≡ v
@@ -155,3 +149,8 @@ none_small n = let least : 0 ≤ n = omega arith in pow-le-pow_right {n = 16} (o
 
 pub small_end : (i x n : ℕ) → x < 16 ^ i → i ≤ n → n ≤ i → x < 16 ^ n
 small_end i x n lx p q = let e : i ≡ n = omega arith in rw e at lx
+
+-- what `low` needs, and `number`
+pub ruleset reading = (low_many, none_small, low_turn, grows, low_end, small_end)
+
+pub ruleset numbered = (number_low, number_none, none_small)

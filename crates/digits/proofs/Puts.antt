@@ -103,6 +103,17 @@ put_start text [] h = refl
 put_start [] (b ∷ s) h = absurd (not-suc-le-zero h)
 put_start (a ∷ text) (b ∷ s) h = put_cons b text 0 s ∙ ap (λ (l : List ℕ). b ∷ l) (put_start text s (le_of_suc-le-suc h))
 
+-- at any place: the bytes before it as they were too
+pub put_at : (text : List ℕ) (at : ℕ) (s : List ℕ) → at + length s ≤ length text → put text at s ≡ take at text ++ (s ++ drop (at + length s) text)
+put_at text zero s h = let e : 0 + length s ≡ length s = omega arith in rw e (put_start text s (omega arith))
+put_at [] (suc at) s h = absurd (let none : suc at + length s ≤ 0 = h in omega arith)
+put_at (a ∷ text) (suc at) s h =
+    let e : suc at + length s ≡ suc (at + length s) = omega arith in
+    rw e (ap (λ k. put (a ∷ text) k s) (sym (add-one at)) ∙ put_cons a text at s ∙ ap (λ (l : List ℕ). a ∷ l) (put_at text at s (le_of_suc-le-suc (rw e at h))))
+
 -- and is there to be read
 pub put_read : (text s : List ℕ) → length s ≤ length text → take (length s) (put text 0 s) ≡ s
 put_read text s h = ap (take (length s)) (put_start text s h) ∙ take-append_seam s _
+
+-- what `put_hex` needs
+pub ruleset putting = (put_stays, put_fits, put_digit)

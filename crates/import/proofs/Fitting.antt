@@ -1,5 +1,5 @@
 -- A record that is read has no more fields than there are slots on either side.
-use mathlib.Core.Path.{◌≡◌, refl, sym, ap, ◌∙◌}
+use mathlib.Core.Path.{◌≡◌, refl, sym, ap}
 use mathlib.Core.Bool.{Bool, true, false, not}
 use mathlib.Core.List.{List, [], ◌∷◌}
 use Prim.Native.Nat.{ℕ, ◌≤◌}
@@ -13,7 +13,9 @@ use Rattle.table.specs.Table.{holding}
 use Rattle.table.specs.Does.{Outcome2, refused2}
 use Rattle.vector.specs.declared.Vector.{Vector}
 use Rattle.vector.specs.Seen.{tray}
-use Rattle.pairs.specs.declared.vectors.Both.{Both}
+use Rattle.std.specs.Prelude.{Ok}
+use Rattle.table.specs.declared.answers.Answer.{Answer}
+use Rattle.table.specs.declared.answers.Both.{Both}
 use Rattle.record.specs.Scan.{scanned}
 use Rattle.record.specs.Places.{firsts}
 use Rattle.record.specs.Steps.{number_of}
@@ -49,14 +51,8 @@ module _ (text : List ℕ) (t t2 : Tray) where
         omega (arith, p.2, length_firsts (scanned text).fields, ltb-false (cap t2) n p.1),
       )
 
-module _ (text : List ℕ) (first : Vector) (s : List ℕ) (second : Vector) (z : List ℕ) (a : Both) (s' z' : List ℕ) (r : Records text first s second z a s' z') (done : a.number ≡ 0) where
-  fits : (a.first.len ≤ length s) × (a.first.len ≤ length z)
+module _ (text : List ℕ) (first : Vector) (s : List ℕ) (second : Vector) (z : List ℕ) (a : Answer (Both Vector Vector)) (s' z' : List ℕ) (r : Records text first s second z (Ok a) s' z') where
+  pub fits : (a.state.first.len ≤ length s) × (a.state.first.len ≤ length z)
   fits =
-      let f = fit text (tray first s) (tray second z) (sym (ap (λ (o : Outcome2). o.number) r.row) ∙ done) in
+      let f = fit text (tray first s) (tray second z) (sym (ap (λ (o : Outcome2). o.number) r.row)) in
       (omega (arith, ap (λ (o : Outcome2). o.first.len) r.row, f.0), omega (arith, ap (λ (o : Outcome2). o.first.len) r.row, f.1))
-
-  pub starts_fit : length s' ≡ length s → a.first.len ≤ length s'
-  starts_fit e = omega (arith, fits.0)
-
-  pub ends_fit : length z' ≡ length z → a.first.len ≤ length z'
-  ends_fit e = omega (arith, fits.1)

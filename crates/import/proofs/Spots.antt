@@ -1,60 +1,55 @@
--- Lines and bytes counted byte by byte are those behind all of them.
-use mathlib.Core.Path.{◌≡◌, sym, ap, ◌∙◌}
+-- The spot behind one byte more.
+use mathlib.Core.Path.{◌≡◌, refl, sym, ap, ◌∙◌}
 use mathlib.Core.Bool.{Bool, true, false, cond}
-use mathlib.Core.List.{List, ◌∷◌}
+use mathlib.Core.List.{List, [], ◌∷◌, ◌++◌}
 use Prim.Native.Nat.{ℕ, ◌+◌, ◌≤◌, ◌<◌}
 use native.Mathlib.Numerals.{add-one}
 use native.Mathlib.Omega.{arith}
-use borrow.Author.Tests.{eq-eqb, ne_eqb}
 use lib.Dec.{eqb}
-use lib.ListN.{length, get_or, drop, drop_of_length-le}
-use lib.Seq.{drop-cons}
-use Rattle.import.specs.Spots.{line_on, byte_on, line_after, byte_after}
+use lib.ListN.{length, get_or, take, length-append}
+use lib.Seq.{take-suc}
+use Rattle.import.specs.declared.counts.Spot.{Spot}
+use Rattle.import.specs.Spots.{line_on, byte_on, line_after, byte_after, Behind}
 
--- at LF, and at another byte
-pub line_lf : (line b : ℕ) → b ≡ 10 → line + 1 ≡ line_on line b
-line_lf line b e = rw (eq-eqb b 10 e)
+line_after-append : (line : ℕ) (a b : List ℕ) → line_after line (a ++ b) ≡ line_after (line_after line a) b
+unfolding line_after
+line_after-append line [] b = refl
+line_after-append line (x ∷ a) b = line_after-append (line_on line x) a b
 
-pub byte_lf : (byte b : ℕ) → b ≡ 10 → 1 ≡ byte_on byte b
-byte_lf byte b e = rw (eq-eqb b 10 e)
-
-pub line_on_law : (line b : ℕ) → (b ≡ 10 → ⊥) → line ≡ line_on line b
-line_on_law line b n = rw (ne_eqb b 10 n)
-
-pub byte_on_law : (byte b : ℕ) → (b ≡ 10 → ⊥) → byte + 1 ≡ byte_on byte b
-byte_on_law byte b n = rw (ne_eqb b 10 n)
+byte_after-append : (byte : ℕ) (a b : List ℕ) → byte_after byte (a ++ b) ≡ byte_after (byte_after byte a) b
+unfolding byte_after
+byte_after-append byte [] b = refl
+byte_after-append byte (x ∷ a) b = byte_after-append (byte_on byte x) a b
 
 -- no byte leads further on than one
-pub line_near : (x y z i b : ℕ) → y ≡ line_on x b → x ≤ z + i → y ≤ z + (i + 1)
-line_near x y z i b = step (eqb b 10)
+line_near : (x y b : ℕ) → y ≡ line_on x b → y ≤ x + 1
+line_near x y b = step (eqb b 10)
   where
-    step : (lf : Bool) → y ≡ cond lf (x + 1) x → x ≤ z + i → y ≤ z + (i + 1)
-    step true e h = omega arith
-    step false e h = omega arith
+    step : (lf : Bool) → y ≡ cond lf (x + 1) x → y ≤ x + 1
+    step true e = omega arith
+    step false e = omega arith
 
-pub byte_near : (x y z i b : ℕ) → y ≡ byte_on x b → x ≤ z + i → y ≤ z + (i + 1)
-byte_near x y z i b = step (eqb b 10)
+byte_near : (x y b : ℕ) → y ≡ byte_on x b → y ≤ x + 1
+byte_near x y b = step (eqb b 10)
   where
-    step : (lf : Bool) → y ≡ cond lf 1 (x + 1) → x ≤ z + i → y ≤ z + (i + 1)
-    step true e h = omega arith
-    step false e h = omega arith
+    step : (lf : Bool) → y ≡ cond lf 1 (x + 1) → y ≤ x + 1
+    step true e = omega arith
+    step false e = omega arith
 
-module _ (part : List ℕ) (i : ℕ) where
-  left : i < length part → drop i part ≡ get_or part i 0 ∷ drop (i + 1) part
-  left h = rw (add-one, drop-cons part i 0)
+pub behind_more : (first s r : Spot) (part : List ℕ) (i : ℕ) → Behind first (take i part) s → i < length part → r.line ≡ line_on s.line (get_or part i 0)
+    → r.byte ≡ byte_on s.byte (get_or part i 0) → Behind first (take (i + 1) part) r
+unfolding line_after byte_after
+behind_more first s r part i h inside e e2 =
+    let b : ℕ = get_or part i 0 in
+    let cut : take (i + 1) part ≡ take i part ++ (b ∷ []) = rw add-one (take-suc part i 0 inside) in
+    let size : length (take (i + 1) part) ≡ length (take i part) + 1 = ap length cut ∙ length-append (take i part) (b ∷ []) in
+    record {
+      line = e ∙ ap (λ (n : ℕ). line_on n b) h.line ∙ sym (ap (line_after first.line) cut ∙ line_after-append first.line (take i part) (b ∷ []));
+      byte = e2 ∙ ap (λ (n : ℕ). byte_on n b) h.byte ∙ sym (ap (byte_after first.byte) cut ∙ byte_after-append first.byte (take i part) (b ∷ []));
+      line_near = omega (arith, size, h.line_near, line_near s.line r.line b e);
+      byte_near = omega (arith, size, h.byte_near, byte_near s.byte r.byte b e2);
+    }
 
-  pub line_turn : (x y v : ℕ) → line_after x (drop i part) ≡ v → i < length part → y ≡ line_on x (get_or part i 0) → line_after y (drop (i + 1) part) ≡ v
-  unfolding line_after
-  line_turn x y v is h e = rw e (sym (ap (line_after x) (left h))) ∙ is
-
-  pub line_end_law : (x v : ℕ) → line_after x (drop i part) ≡ v → length part ≤ i → x ≡ v
-  unfolding line_after
-  line_end_law x v is h = sym (ap (line_after x) (drop_of_length-le part {i = i} h)) ∙ is
-
-  pub byte_turn : (x y v : ℕ) → byte_after x (drop i part) ≡ v → i < length part → y ≡ byte_on x (get_or part i 0) → byte_after y (drop (i + 1) part) ≡ v
-  unfolding byte_after
-  byte_turn x y v is h e = rw e (sym (ap (byte_after x) (left h))) ∙ is
-
-  pub byte_end : (x v : ℕ) → byte_after x (drop i part) ≡ v → length part ≤ i → x ≡ v
-  unfolding byte_after
-  byte_end x v is h = sym (ap (byte_after x) (drop_of_length-le part {i = i} h)) ∙ is
+pub behind_none : (s : Spot) → Behind s [] s
+unfolding line_after byte_after
+behind_none s = record { line = refl; byte = refl; line_near = omega arith; byte_near = omega arith }

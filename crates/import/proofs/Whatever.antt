@@ -5,12 +5,14 @@ use mathlib.Core.Bool.{Bool, true, false, not, ◌&&◌, ◌||◌}
 use mathlib.Core.List.{List, ◌++◌}
 use mathlib.Core.Logic.{inr}
 use Prim.Native.Nat.{ℕ, ◌+◌, ◌-◌, ◌<◌}
+use Rattle.std.specs.Prelude.{Ok, Err}
 use native.Mathlib.Omega.{arith}
 use borrow.Author.Tests.{eqb-true, eq-eqb, lt-ltb, le-ltb}
 use lib.Dec.{eqb, ltb}
 use lib.ListN.{length, get_or}
 use Rattle.record.specs.Scan.{done, bad, scanned}
 use Rattle.record.proofs.Theorems.Decided.{bad_decided, window_done}
+use Rattle.record.specs.declared.Fault.TheVariants.{Stray}
 use Rattle.import.specs.Settled.{stands, settled}
 
 both : (a b : Bool) → a && b ≡ true → (a ≡ true) × (b ≡ true)
@@ -18,7 +20,7 @@ both true b e = (refl, e)
 both false b e = absurd (let z : ◌≡◌ {A = ℕ} 0 1 = cc in omega arith)
 
 -- a record that is settled is read the same, with the same fields and the same next place
-pub record_whatever : (window others : List ℕ) (next : ℕ) → (scanned window).ending ≡ done next → settled window false 0 next ≡ true
+pub record_whatever : (window others : List ℕ) (next : ℕ) → (scanned window).ending ≡ done next → settled window false (Ok next) ≡ true
     → scanned (window ++ others) ≡ scanned window
 unfolding settled
 record_whatever window others next e is =
@@ -27,7 +29,7 @@ record_whatever window others next e is =
     window_done window next others e (inr (eqb-true (get_or window (next - 1) 0) 10 lf.1))
 
 -- a byte that is settled to be at fault is so whatever follows
-pub fault_whatever : (window others : List ℕ) (at : ℕ) → (scanned window).ending ≡ bad at → settled window false 9 at ≡ true
+pub fault_whatever : (window others : List ℕ) (at : ℕ) → (scanned window).ending ≡ bad at → settled window false (Err (Stray at)) ≡ true
     → scanned (window ++ others) ≡ scanned window
 unfolding settled
 fault_whatever window others at e is = bad_decided window at others e (λ last cr. alone last cr is)

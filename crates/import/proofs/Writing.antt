@@ -1,29 +1,39 @@
--- Bytes as they are shown, written one behind another: what is written, with what is left, is always the whole.
-use mathlib.Core.Path.{◌≡◌, sym, ap, ◌∙◌}
+-- Bytes as they are shown, written one behind another: each behind those before it.
+use mathlib.Core.Path.{◌≡◌, refl, sym, ap, ◌∙◌}
 use mathlib.Core.Bool.{true, false, ◌||◌}
-use mathlib.Core.List.{List}
+use mathlib.Core.List.{List, [], ◌∷◌, ◌++◌}
 use Prim.Native.Nat.{ℕ, ◌+◌, ◌≤◌, ◌<◌}
+use Rattle.std.proofs.Common.{append_assoc}
+use Rattle.std.proofs.lemmas.List.{append-nil}
+use native.Mathlib.Numerals.{add-one}
 use native.Mathlib.Omega.{arith}
 use lib.Dec.{eqb, ltb}
-use lib.ListN.{length, get_or, set, drop, drop_of_length-le}
+use lib.ListN.{length, get_or, set, take}
+use lib.Seq.{take-suc}
 use Rattle.digits.specs.Hex.{hex}
 use Rattle.digits.specs.Put.{put, put_whole}
 use Rattle.digits.proofs.Puts.{length_put, put_fits, length_hex}
 use Rattle.words.specs.Words.{bytes}
 use Rattle.words.specs.Wrote.{Wrote}
-use Rattle.words.proofs.Writing.{Left, left_none, left_then, left_cons, wrote_one, wrote_then}
+use Rattle.words.proofs.Writing.{wrote_none, wrote_one, wrote_then}
 use Rattle.import.specs.Lines.{shown, all_shown}
 
--- of a loop that writes each byte of a text as it is shown
-module _ {a b : List ℕ} {at : ℕ} (text : List ℕ) (i : ℕ) where
-  pub shown_turn : (end e : ℕ) (c : List ℕ) → Left a at (all_shown text) end (all_shown (drop i text)) b → i < length text → Wrote b end (shown (get_or text i 0)) e c
-      → Left a at (all_shown text) e (all_shown (drop (i + 1) text)) c
-  unfolding all_shown
-  shown_turn end e c p h q = left_then {s = shown (get_or text i 0)} (rw (left_cons text i h) at p) q
+all_shown-append : (s t : List ℕ) → all_shown (s ++ t) ≡ all_shown s ++ all_shown t
+unfolding all_shown
+all_shown-append [] t = refl
+all_shown-append (b ∷ s) t = ap (λ (u : List ℕ). shown b ++ u) (all_shown-append s t) ∙ sym (append_assoc (shown b) (all_shown s) (all_shown t))
 
-  pub shown_end : (end : ℕ) → Left a at (all_shown text) end (all_shown (drop i text)) b → length text ≤ i → Wrote a at (all_shown text) end b
-  unfolding all_shown
-  shown_end end p h = left_none (rw (drop_of_length-le text {i = i} h) at p)
+-- of a loop that writes each byte of a text as it is shown
+pub shown_first : {a : List ℕ} {at : ℕ} → Wrote a at (all_shown []) at a
+unfolding all_shown
+shown_first = wrote_none
+
+pub shown_more : {a b c : List ℕ} {at end e : ℕ} (text : List ℕ) (i : ℕ) → Wrote a at (all_shown (take i text)) end b → i < length text → Wrote b end (shown (get_or text i 0)) e c
+    → Wrote a at (all_shown (take (i + 1) text)) e c
+unfolding all_shown
+shown_more text i p h q =
+    let cut : take (i + 1) text ≡ take i text ++ (get_or text i 0 ∷ []) = rw add-one (take-suc text i 0 h) in
+    rw (cut, all_shown-append, append-nil) (wrote_then p q)
 
 -- a byte that is shown by its digits, and one as it is
 pub shown_hex : {a mid : List ℕ} {at m : ℕ} (b : List ℕ) (x : ℕ) → ltb x 32 || (eqb x 127 || eqb x 92) ≡ true → Wrote a at (bytes "\\x") m mid → at + 4 ≤ length a

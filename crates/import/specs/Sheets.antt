@@ -1,81 +1,66 @@
--- What is counted over the records: that nothing is counted more often than bytes were passed, so that every count fits, and what a record adds.
-use Rattle.std.specs.Prelude.{ℕ, ◌+◌, ◌-◌, ◌*◌, ◌≤◌, ◌<◌, ◌≡◌, cond, List, eqb, length}
+-- What is counted over the records, and what a record adds. That nothing is counted more often than bytes were passed, so that every count fits, each
+-- Sheet says by itself; that what is held or collected is within its room, each Window and each Page.
+use Rattle.std.specs.Prelude.{ℕ, ◌+◌, ◌-◌, ◌≤◌, ◌<◌, ◌≡◌, cond, List, Option, Some, None, Result, Ok, Err, eqb, length, take}
 use Rattle.record.specs.Undone.{undone, part}
-use Rattle.import.specs.declared.Spot.{Spot}
-use Rattle.import.specs.declared.Said.{Said}
-use Rattle.import.specs.declared.Sheet.{Sheet}
-use Rattle.import.specs.declared.Taken.{Taken}
-use Rattle.import.specs.declared.Stand.{Stand}
+use Rattle.import.specs.declared.counts.Spot.{Spot}
+use Rattle.import.specs.declared.counts.Sheet.{Sheet}
+use Rattle.import.specs.declared.Ending.{Ending}
 use Rattle.import.specs.Lines.{field_line}
 use Rattle.words.specs.Wrote.{Wrote}
 
--- nothing is counted more often than bytes were passed
-pub record Sane (s : Sheet) : Type 0 where
-  pub records : s.records ≤ s.passed
-  pub others : s.others ≤ s.passed
-  pub line : s.line ≤ s.passed + 1
-  pub byte : s.byte ≤ s.passed + 1
-
--- and so many bytes more can be counted
-pub record Fit (s : Sheet) (more : ℕ) : Type 0 where
-  pub sane : Sane s
-  pub room : s.passed + more < 18446744073709551615
-
 -- one record more, of k fields
-pub record Counted (s : Sheet) (k next : ℕ) (spot : Spot) (r : Sheet) : Type 0 where
+pub record Counted (s : Sheet) (k next : ℕ) (behind : Spot) (r : Sheet) : Type 0 where
   pub passed : r.passed ≡ s.passed + next
-  pub line : r.line ≡ spot.line
-  pub byte : r.byte ≡ spot.byte
+  pub spot : r.spot ≡ behind
   pub records : r.records ≡ s.records + 1
   pub first : r.first ≡ cond (eqb s.records 0) k s.first
   pub others : r.others ≡ cond (eqb k r.first) s.others (s.others + 1)
 
--- a record taken from a text of so many bytes, with an output of so many: what is done with is counted, and no more than there is
-pub record Took (s : Sheet) (text out : ℕ) (r : Taken) : Type 0 where
-  pub within : r.next ≤ text
-  pub passed : r.sheet.passed ≡ s.passed + r.next
-  pub sane : Sane r.sheet
-  pub said : r.said.at ≤ out
+-- how many bytes are done with, of a text on which this was the answer
+abbrev pub done_of : Result (Option ℕ) Ending → ℕ
+done_of (Ok (Some next)) = next
+done_of (Ok None) = 0
+done_of (Err e) = 0
+
+-- a record taken from a text of so many bytes: what is done with is counted, and no more than there is; a record has bytes
+pub record Took (s : Sheet) (text : ℕ) (r : Result (Option ℕ) Ending) (s' : Sheet) : Type 0 where
+  pub within : done_of r ≤ text
+  pub passed : s'.passed ≡ s.passed + done_of r
+  pub some : (next : ℕ) → r ≡ Ok (Some next) → 0 < next
+
+-- a field's text is no longer than the lent bytes, and is the field's own bytes, if the field is of the text and they fit
+pub record OwnText (text : List ℕ) (start end room n : ℕ) (field : List ℕ) : Type 0 where
+  pub fits : n ≤ length field
+  pub own : length text ≤ 65535 → start ≤ end → end ≤ length text → length (undone (part text start end)) ≤ room → take n field ≡ undone (part text start end)
 
 -- a field's line is put behind what is collected, or first once that is written; it is that of the field's own bytes, if the field is of the text
-pub record Says (text : List ℕ) (start end : ℕ) (field out : List ℕ) (r : Said) (out' : List ℕ) : Type 0 where
-  pub said : r.at ≤ length out
+pub record Says (text : List ℕ) (start end : ℕ) (out : List ℕ) (end' : ℕ) (out' : List ℕ) : Type 0 where
   pub at : ℕ
-  pub wrote : length text ≤ 65535 → start ≤ end → end ≤ length text → length (undone (part text start end)) ≤ length field
-      → Wrote out at (field_line (undone (part text start end))) r.at out'
+  pub wrote : length text ≤ 65535 → start ≤ end → end ≤ length text → length (undone (part text start end)) ≤ 65535
+      → Wrote out at (field_line (undone (part text start end))) end' out'
 
 -- records taken from a window of so many bytes, from a place on: next is where the rest begins
-pub record Went (first : Taken) (window out : ℕ) (r : Taken) : Type 0 where
-  pub more : first.next ≤ r.next
-  pub within : r.next ≤ window
-  pub passed : r.sheet.passed + first.next ≡ first.sheet.passed + r.next
-  pub sane : Sane r.sheet
-  pub said : r.said.at ≤ out
+pub record Went (s : Sheet) (from window : ℕ) (r : Result ℕ Ending) (s' : Sheet) : Type 0 where
+  pub next : ℕ
+  pub answered : (n : ℕ) → r ≡ Ok n → n ≡ next
+  pub more : from ≤ next
+  pub within : next ≤ window
+  pub passed : s'.passed + from ≡ s.passed + next
 
--- at the start: nothing is counted but a mark's bytes, and what is collected fits the output
-pub record Started (mark at : ℕ) (r : Taken) : Type 0 where
-  pub next : r.next ≡ mark
-  pub passed : r.sheet.passed ≡ mark
-  pub sane : Sane r.sheet
-  pub said : r.said.at ≡ at
+-- at the start: nothing is counted but a mark's bytes
+pub record Started (mark : ℕ) (r : Sheet) : Type 0 where
+  pub passed : r.passed ≡ mark
+  pub records : r.records ≡ 0
+  pub others : r.others ≡ 0
 
-pub record Begun (window out : ℕ) (r : Taken) : Type 0 where
-  pub next : r.next ≤ window
-  pub passed : r.sheet.passed ≤ 3
-  pub sane : Sane r.sheet
-  pub said : r.said.at ≤ out
+pub record Begun (from : ℕ) (r : Sheet) : Type 0 where
+  pub next : from ≡ r.passed
+  pub passed : r.passed ≤ 3
 
--- between two windows
-pub record Stands (s : Stand) (window out : ℕ) : Type 0 where
-  pub held : s.filled.held ≤ window
-  pub next : s.taken.next ≤ s.filled.held
-  pub sane : Sane s.taken.sheet
-  pub said : s.taken.said.at ≤ out
+-- a turn: bytes are passed, or it ends. from is where the rest begins
+abbrev pub left : (s : Sheet) (from : ℕ) → ℕ
+left s from = 18446744073709551616 - s.passed + from
 
--- a turn: bytes are passed, or it ends
-abbrev pub left : (s : Stand) → ℕ
-left s = 2 * (18446744073709551616 - s.taken.sheet.passed + s.taken.next) + cond (eqb s.ending 0) 1 0
-
-pub record Turned (s r : Stand) : Type 0 where
-  pub few : r.taken.sheet.passed ≤ s.taken.sheet.passed + 65536
-  pub less : left r < left s
+pub record Turned (s : Sheet) (from : ℕ) (r : Result Unit Ending) (s' : Sheet) (from' : ℕ) : Type 0 where
+  pub few : s'.passed ≤ s.passed + 65536
+  pub less : r ≡ Ok tt → left s' from' < left s from

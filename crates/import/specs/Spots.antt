@@ -1,6 +1,6 @@
 -- Line and byte, both from 1: a line ends at LF, wherever it stands.
 use Rattle.std.specs.Prelude.{ℕ, ◌+◌, ◌≤◌, ◌≡◌, cond, List, [], ◌∷◌, eqb, length}
-use Rattle.import.specs.declared.Spot.{Spot}
+use Rattle.import.specs.declared.counts.Spot.{Spot}
 
 -- behind one byte, and behind some, of which the first stood on this line, or was this byte of its line
 abbrev pub line_on : (line b : ℕ) → ℕ

@@ -1,122 +1,142 @@
 // What is counted, and when an answer is settled.
-ghost use Rattle.std.specs.Prelude.{◌≡◌, ◌+◌, ◌≤◌, ◌<◌, min, cond, true, eqb, length};
+ghost use Rattle.std.specs.Prelude.{◌≡◌, ◌+◌, ◌≤◌, ◌<◌, cond, true, eqb, length};
 ghost use Rattle.import.specs.Spots.{line_on, byte_on, Behind};
 ghost use Rattle.import.specs.Settled.{stands, settled, mark};
-ghost use Rattle.import.specs.Sheets.{Counted};
 
-use super::{Sheet, Spot};
+use record::Fault;
 
-// Behind one more byte.
-pub(crate) fn behind(s: Spot, b: u8) -> Spot
-    requires { (s.line < 18446744073709551615) × (s.byte < 18446744073709551615) }
-    ensures { (result.line ≡ line_on s.line b) × (result.byte ≡ byte_on s.byte b) }
-{
-    if b == 10 {
-        return Spot {
-            line: s.line + 1,
-            byte: 1,
-        };
+// A line and a byte of it, both from 1.
+#[derive(Clone, Copy)]
+pub(crate) struct Spot {
+    pub(crate) line: u64,
+    pub(crate) byte: u64,
+}
+
+impl Spot {
+    // Behind one more byte.
+    fn behind(self, b: u8) -> Spot
+        requires { (self.line < 18446744073709551615) × (self.byte < 18446744073709551615) }
+        ensures { (result.line ≡ line_on self.line b) × (result.byte ≡ byte_on self.byte b) }
+    {
+        if b == b'\n' {
+            return Spot {
+                line: self.line + 1,
+                byte: 1,
+            };
+        }
+        Spot {
+            line: self.line,
+            byte: self.byte + 1,
+        }
     }
-    Spot {
-        line: s.line,
-        byte: s.byte + 1,
+
+    // Behind a part.
+    pub(crate) fn behind_all(self, part: &[u8]) -> Spot
+        requires { (self.line + length part.now < 18446744073709551616) × (self.byte + length part.now < 18446744073709551616) }
+        ensures { Behind self part.now result }
+    {
+        let mut s = self;
+        for b in part {
+            s = s.behind(*b);
+        }
+        s
     }
 }
 
-// Behind a part.
-pub(crate) fn spot_behind(part: &[u8], first: Spot) -> Spot
-    requires { (first.line + length part.now < 18446744073709551616) × (first.byte + length part.now < 18446744073709551616) }
-    ensures { Behind first part.now result }
-{
-    let mut s = first;
-    let mut i = 0;
-    while i < part.len() {
-        s = behind(s, part[i]);
-        i += 1;
+// What was counted: bytes passed, where the next one stands, records, fields of the first, and records with another number of fields. Nothing is counted
+// more often than bytes were passed.
+#[derive(Clone, Copy)]
+pub(crate) struct Sheet {
+    pub(crate) passed: u64,
+    pub(crate) spot: Spot,
+    pub(crate) records: u64,
+    pub(crate) first: u64,
+    pub(crate) others: u64,
+    ghost few_records: { records ≤ passed },
+    ghost few_others: { others ≤ passed },
+    ghost few_lines: { spot.line ≤ passed + 1 },
+    ghost few_bytes: { spot.byte ≤ passed + 1 },
+}
+
+impl Sheet {
+    ghost use Rattle.import.specs.Sheets.{Started, Counted};
+
+    // Nothing is counted yet but a mark's bytes.
+    pub(crate) fn start(mark: u64) -> Sheet
+        requires { mark ≤ 3 }
+        ensures { Started mark result }
+    {
+        Sheet {
+            passed: mark,
+            spot: Spot {
+                line: 1,
+                byte: mark + 1,
+            },
+            records: 0,
+            first: 0,
+            others: 0,
+        }
     }
-    s
+
+    // One record more, of k fields, which takes so many bytes and ends before a spot.
+    pub(crate) fn counted(&self, k: u64, next: u64, spot: Spot) -> Sheet
+        requires fits { (0 < next) × (self.now.passed + next < 18446744073709551615) }
+        requires near { (spot.line ≤ self.now.spot.line + next) × (spot.byte ≤ self.now.spot.byte + next) }
+        ensures { Counted self.now k next spot result }
+    {
+        let first = first_of(self.records, k, self.first);
+        Sheet {
+            passed: self.passed + next,
+            spot,
+            records: self.records + 1,
+            first,
+            others: others_of(self.others, k, first),
+        }
+    }
+}
+
+// How many fields the first record has, once one of k is counted behind so many.
+fn first_of(records: u64, k: u64, first: u64) -> u64
+    ensures { result ≡ cond (eqb records 0) k first }
+{
+    if records == 0 { k } else { first }
+}
+
+// How many records have another number of fields, once one of k is counted.
+fn others_of(others: u64, k: u64, first: u64) -> u64
+    requires { others < 18446744073709551615 }
+    ensures { result ≡ cond (eqb k first) others (others + 1) }
+{
+    if k == first { others } else { others + 1 }
 }
 
 // Whether a byte stands at a position.
-pub(crate) fn stands(text: &[u8], at: usize, b: u8) -> bool
+// `record` has the same for itself, where the promise is of the rest of the text.
+fn stands(text: &[u8], at: usize, b: u8) -> bool
     ensures { result ≡ stands text.now at b }
 {
-    if at < text.len() {
-        return text[at] == b;
-    }
-    false
+    text.get(at) == Some(&b)
 }
 
 // Whether an answer on a text is the answer whatever comes after the text.
-pub(crate) fn settled(text: &[u8], last: bool, number: u8, at: usize) -> bool
-    ensures { result ≡ settled text.now last number at }
+#[tactic(auto, unfolding(crate::specs::Settled::settled))]
+pub(crate) fn settled(text: &[u8], last: bool, seen: Result<usize, Fault>) -> bool
+    ensures { result ≡ settled text.now last seen }
 {
     if last {
         return true;
     }
-    if number == 0 {
-        if at == 0 {
-            return false;
-        }
-        return stands(text, at - 1, 10);
+    match seen {
+        Ok(next) => 0 < next && stands(text, next - 1, b'\n'),
+        Err(Fault::Stray(at)) => !stands(text, at as usize, b'\r') || at as usize + 1 < text.len(),
+        Err(_) => false,
     }
-    if number != 9 {
-        return false;
-    }
-    if stands(text, at, 13) {
-        return at + 1 < text.len();
-    }
-    true
 }
 
 // Whether the input begins with a byte-order mark.
+#[tactic(auto, unfolding(crate::specs::Settled::mark))]
 pub(crate) fn marked(window: &[u8]) -> bool
     ensures { (result ≡ mark window.now) × (result ≡ true → 3 ≤ length window.now) }
 {
-    stands(window, 0, 239) & (stands(window, 1, 187) & stands(window, 2, 191))
-}
-
-// How many fields the first record has, once one of k is counted.
-pub(crate) fn first_of(s: Sheet, k: u64) -> u64
-    ensures { result ≡ cond (eqb s.records 0) k s.first }
-{
-    if s.records == 0 {
-        return k;
-    }
-    s.first
-}
-
-// How many records have another number of fields, once one of k is counted.
-pub(crate) fn others_of(others: u64, k: u64, first: u64) -> u64
-    requires { others < 18446744073709551615 }
-    ensures { result ≡ cond (eqb k first) others (others + 1) }
-{
-    if k == first {
-        return others;
-    }
-    others + 1
-}
-
-// One record more, of k fields, which takes so many bytes and ends before a spot.
-pub(crate) fn counted(s: Sheet, k: u64, next: u64, spot: Spot) -> Sheet
-    requires { (s.passed + next < 18446744073709551616) × (s.records < 18446744073709551615) × (s.others < 18446744073709551615) }
-    ensures { Counted s k next spot result }
-{
-    let first = first_of(s, k);
-    let others = others_of(s.others, k, first);
-    Sheet {
-        passed: s.passed + next,
-        line: spot.line,
-        byte: spot.byte,
-        records: s.records + 1,
-        first,
-        others,
-    }
-}
-
-// The smaller of two numbers.
-pub(crate) fn least(a: usize, b: usize) -> usize
-    ensures { result ≡ min a b }
-{
-    if a < b { a } else { b }
+    matches!(window, [0xef, 0xbb, 0xbf, ..])
 }

@@ -1,137 +1,35 @@
 // The record at the front of a text: taken, and listed, or refused.
-ghost use Rattle.std.specs.Prelude.{◌≡◌, ◌≤◌, ◌<◌, true, length};
-ghost use Rattle.record.specs.Recorded.{told, judges};
-ghost use Rattle.import.specs.Settled.{Settles};
-ghost use Rattle.import.specs.Sheets.{Fit, Took, Says, Went};
+ghost use Rattle.std.specs.Prelude.{◌≡◌, ◌+◌, ◌≤◌, ◌<◌, Some, length, take, IfSome, MatchResult};
+ghost use Rattle.record.specs.Recorded.{judges};
+ghost use Rattle.record.specs.Undone.{undone, part};
+ghost use Rattle.record.specs.Steps.{place_told};
+ghost use Rattle.import.specs.Settled.{seen, reason_at, Settles};
+ghost use Rattle.import.specs.declared.counts.Spot.{Spot};
+ghost use Rattle.import.specs.Spots.{Behind};
+ghost use Rattle.import.specs.Sheets.{OwnText, Took, Says, Counted, Went};
 
-use super::{Said, Sheet, Spot, Taken};
+use super::counts::Sheet;
+use super::windows::Page;
+use super::{Ending, Reason};
+use record::Fault;
 use std::io::Write;
 use vector::Vector;
 
-// A field's line: its text, with doubled quotes undone, as it is shown.
-pub(crate) fn say_field<W: Write>(
-    output: &mut W,
-    text: &[u8],
-    start: u32,
-    end: u32,
-    field: &mut [u8],
-    out: &mut [u8],
-    said: Said,
-) -> Said
-    requires { (said.at ≤ length out.old) × (262145 ≤ length out.old) × (length field.old ≤ 65535) }
-    ensures { Says text.now start end field.old out.old result out.new }
+// What a text comes to: where the next record starts, or why there is none.
+fn judge(text: &[u8]) -> Result<usize, Fault>
+    requires { (0 < length text.now) × (length text.now ≤ 65535) }
+    ensures judged { result ≡ seen (judges text.now) }
+    ensures inside { MatchResult result (λ next. (0 < next) × (next ≤ length text.now)) (λ fault. place_told fault ≤ length text.now) }
 {
-    let s = super::windows::room(output, said, 262145, out);
-    let heard = s.heard;
-    let told = record::texts::field_text(text, start as usize, end as usize, field);
-    let n = told.value as usize;
-    let at = super::prints::put_field(&field[0..n], out, s.at);
-    Said { at, heard }
+    let next = record::texts::judge(text)?;
+    Ok(next as usize)
 }
 
-// The lines of a record's fields, as long as the output takes them.
-pub(crate) fn say_fields<W: Write>(
-    output: &mut W,
-    text: &[u8],
-    slots: &[u32],
-    theirs: &[u32],
-    n: usize,
-    field: &mut [u8],
-    out: &mut [u8],
-    said: Said,
-) -> Said
-    requires { (n ≤ length slots.now) × (n ≤ length theirs.now) × (said.at ≤ length out.old) × (262145 ≤ length out.old) × (length field.old ≤ 65535) }
-    ensures { result.at ≤ length out.old }
+// A field's text, with doubled quotes undone: how many bytes it has.
+fn own_text(text: &[u8], start: u32, end: u32, field: &mut [u8]) -> usize
+    ensures { OwnText text.now start end (length field.old) result field.new }
 {
-    let mut s = said;
-    let mut i = 0;
-    let mut go = s.heard;
-    while go && i < n {
-        s = say_field(output, text, slots[i], theirs[i], field, out, s);
-        go = s.heard;
-        i += 1;
-    }
-    s
-}
-
-// A refusal, for the byte at a place: its line, and nothing is taken.
-pub(crate) fn refuse<W: Write>(
-    output: &mut W,
-    text: &[u8],
-    number: u8,
-    at: usize,
-    sheet: Sheet,
-    out: &mut [u8],
-    said: Said,
-) -> Taken
-    requires { (at ≤ length text.now) × Fit sheet (length text.now) × (said.at ≤ length out.old) × (262145 ≤ length out.old) }
-    ensures { Took sheet (length text.now) (length out.old) result }
-{
-    let first = Spot {
-        line: sheet.line,
-        byte: sheet.byte,
-    };
-    let spot = super::counts::spot_behind(&text[0..at], first);
-    let s = super::windows::room(output, said, 120, out);
-    let heard = s.heard;
-    let end = super::prints::put_refused(
-        sheet.records + 1,
-        spot.line,
-        spot.byte,
-        number,
-        out,
-        s.at,
-    );
-    Taken {
-        next: 0,
-        refused: true,
-        sheet,
-        said: Said { at: end, heard },
-    }
-}
-
-// A record that is taken: its line and its fields'.
-pub(crate) fn list<W: Write>(
-    output: &mut W,
-    text: &[u8],
-    next: usize,
-    slots: &[u32],
-    theirs: &[u32],
-    n: usize,
-    field: &mut [u8],
-    sheet: Sheet,
-    out: &mut [u8],
-    said: Said,
-) -> Taken
-    requires next_nonzero { (0 < next) × (next ≤ length text.now) × (n ≤ length slots.now) × (n ≤ length theirs.now) × (length field.old ≤ 65535) }
-    requires fit { Fit sheet (length text.now) × (said.at ≤ length out.old) × (262145 ≤ length out.old) }
-    ensures { Took sheet (length text.now) (length out.old) result }
-{
-    let first = Spot {
-        line: sheet.line,
-        byte: sheet.byte,
-    };
-    let spot = super::counts::spot_behind(&text[0..next], first);
-    let after = super::counts::counted(sheet, n as u64, next as u64, spot);
-    let s = super::windows::room(output, said, 100, out);
-    let heard = s.heard;
-    let at = super::prints::put_record(after.records, n as u64, after.first, out, s.at);
-    let all = say_fields(
-        output,
-        text,
-        slots,
-        theirs,
-        n,
-        field,
-        out,
-        Said { at, heard },
-    );
-    Taken {
-        next,
-        refused: false,
-        sheet: after,
-        said: all,
-    }
+    record::texts::field_text(text, start as usize, end as usize, field).unwrap_or(0) as usize
 }
 
 // A vector that holds nothing.
@@ -139,120 +37,146 @@ fn empty() -> Vector {
     vector::state(0, runs::total::none())
 }
 
-// The record at the front of a text, by an answer on it that is settled: listed, or refused.
-pub(crate) fn take_settled<W: Write>(
-    output: &mut W,
+// How many fields the record at the front of a text has, if there are slots for them; they then hold where each starts and ends.
+fn places(text: &[u8], starts: &mut [u32; 4096], ends: &mut [u32; 4096]) -> Option<usize>
+    ensures { IfSome result (λ n. n ≤ 4096) }
+{
+    let Ok(got) = record::read(text, empty(), starts, empty(), ends) else {
+        return None;
+    };
+    Some(got.state.first.len)
+}
+
+// A field's line: its text, with doubled quotes undone, as it is shown.
+fn say_field<W: Write>(
+    page: &mut Page<W>,
     text: &[u8],
-    number: u8,
-    at: usize,
-    slots: &mut [u32],
-    theirs: &mut [u32],
-    field: &mut [u8],
-    sheet: Sheet,
-    out: &mut [u8],
-    said: Said,
-) -> Taken
-    requires text_nonzero { (0 < length text.now) × (length text.now ≤ 65535) × (length slots.old ≡ length theirs.old) × (length field.old ≤ 65535) }
-    requires fit { Fit sheet (length text.now) × (said.at ≤ length out.old) × (262145 ≤ length out.old) × (told number at ≡ judges text.now) }
-    ensures { Took sheet (length text.now) (length out.old) result }
+    start: u32,
+    end: u32,
+    field: &mut [u8; 65535],
+)
+    ensures { Says text.now start end page.old.bytes page.new.at page.new.bytes }
 {
-    if number != 0 {
-        return refuse(output, text, number, at, sheet, out, said);
-    }
-    let got = record::read(text, empty(), slots, empty(), theirs);
-    if got.number != 0 {
-        return refuse(output, text, 6, 0, sheet, out, said);
-    }
-    let v = got.first;
-    list(
-        output, text, at, slots, theirs, v.len, field, sheet, out, said,
-    )
+    page.room(262145);
+    let n = own_text(text, start, end, field);
+    page.at = super::prints::put_field(&field[..n], &mut page.bytes, page.at);
 }
 
-// The record at the front of a text, if it is settled.
-pub(crate) fn take<W: Write>(
-    output: &mut W,
-    text: &[u8],
-    last: bool,
-    slots: &mut [u32],
-    theirs: &mut [u32],
-    field: &mut [u8],
-    sheet: Sheet,
-    out: &mut [u8],
-    said: Said,
-) -> Taken
-    requires text_nonzero { (0 < length text.now) × (length text.now ≤ 65535) × (length slots.old ≡ length theirs.old) × (length field.old ≤ 65535) }
-    requires fit { Fit sheet (length text.now) × (said.at ≤ length out.old) × (262145 ≤ length out.old) }
-    ensures { Took sheet (length text.now) (length out.old) result × Settles text.now last result }
-{
-    let seen = record::texts::judge(text);
-    let at = seen.value as usize;
-    if super::counts::settled(text, last, seen.number, at) {
-        return take_settled(
-            output,
-            text,
-            seen.number,
-            at,
-            slots,
-            theirs,
-            field,
-            sheet,
-            out,
-            said,
+// The listing of records: the page, what was counted, slots for where a record's fields start and end, and room for a field's text.
+// Starts and ends stand in two runs of slots, since `record::read` puts them on two vectors.
+#[derive(Drop)]
+pub(crate) struct Listing<W> {
+    pub(crate) page: Page<W>,
+    pub(crate) sheet: Sheet,
+    pub(crate) starts: [u32; 4096],
+    pub(crate) ends: [u32; 4096],
+    pub(crate) field: [u8; 65535],
+}
+
+impl<W: Write> Listing<W> {
+    // The lines of a record's fields, as long as the output takes them.
+    fn say_fields(&mut self, text: &[u8], n: usize)
+        requires { n ≤ 4096 }
+        ensures { self.new.sheet ≡ self.old.sheet }
+    {
+        for (start, end) in self.starts[..n].iter().zip(&self.ends[..n]) {
+            if !self.page.heard {
+                return;
+            }
+            say_field(&mut self.page, text, *start, *end, &mut self.field);
+        }
+    }
+
+    // A refusal: its line, and nothing is taken.
+    // Here and below it is asked that what is counted fits with the text: a ghost field of the sheet can't speak of the text of a call.
+    pub(crate) fn refuse(&mut self, text: &[u8], reason: Reason) -> Ending
+        requires { (reason_at reason ≤ length text.now) × (self.old.sheet.passed + length text.now < 18446744073709551615) }
+        ensures { (result ≡ Ending.Refused) × (self.new.sheet ≡ self.old.sheet) }
+    {
+        let at = match reason {
+            Reason::Text(fault) => u32::from(fault) as usize,
+            Reason::TooMany => 0,
+        };
+        let spot = self.sheet.spot.behind_all(&text[..at]);
+        let page = &mut self.page;
+        page.room(120);
+        page.at = super::prints::put_refused(
+            self.sheet.records + 1,
+            spot,
+            reason,
+            &mut page.bytes,
+            page.at,
         );
+        Ending::Refused
     }
-    Taken {
-        next: 0,
-        refused: false,
-        sheet,
-        said,
-    }
-}
 
-// Whether there may be another record behind one.
-pub(crate) fn goes_on(t: Taken) -> bool
-    ensures { result ≡ true → 0 < t.next }
-{
-    let said = t.said;
-    (0 < t.next) & said.heard
-}
-
-// The settled records at the front of the window, one after another; whole says that the input ends with it. Next is then where the rest begins.
-pub(crate) fn take_all<W: Write>(
-    output: &mut W,
-    window: &[u8],
-    whole: bool,
-    slots: &mut [u32],
-    theirs: &mut [u32],
-    field: &mut [u8],
-    out: &mut [u8],
-    first: Taken,
-) -> Taken
-    requires next_in_bounds { (first.next ≤ length window.now) × (length slots.old ≡ length theirs.old) × (length field.old ≤ 65535) × (262145 ≤ length out.old) }
-    requires fit { Fit first.sheet (length window.now) × (first.said.at ≤ length out.old) }
-    ensures { Went first (length window.now) (length out.old) result }
-{
-    let mut t = first;
-    let mut at = first.next;
-    let mut go = true;
-    while go && at < window.len() {
-        let end = at + super::counts::least(65535, window.len() - at);
-        let sheet = t.sheet;
-        let said = t.said;
-        t = take(
-            output,
-            &window[at..end],
-            whole & (end == window.len()),
-            slots,
-            theirs,
-            field,
-            sheet,
-            out,
-            said,
+    // A record that is taken: its line and its fields'.
+    fn list(&mut self, text: &[u8], next: usize, n: usize)
+        requires next_inside { (0 < next) × (next ≤ length text.now) × (n ≤ 4096) }
+        requires fit { self.old.sheet.passed + length text.now < 18446744073709551615 }
+        ensures { (spot : Spot) × (Behind self.old.sheet.spot (take next text.now) spot) × Counted self.old.sheet n next spot self.new.sheet }
+    {
+        let spot = self.sheet.spot.behind_all(&text[..next]);
+        let sheet = self.sheet.counted(n as u64, next as u64, spot);
+        self.sheet = sheet;
+        let page = &mut self.page;
+        page.room(100);
+        page.at = super::prints::put_record(
+            sheet.records,
+            n as u64,
+            sheet.first,
+            &mut page.bytes,
+            page.at,
         );
-        at += t.next;
-        go = goes_on(t);
+        self.say_fields(text, n);
     }
-    t.next = at;
-    t
+
+    // The record at the front of a text, if it is settled: how many bytes it takes.
+    pub(crate) fn take(&mut self, text: &[u8], last: bool) -> Result<Option<usize>, Ending>
+        requires some { (0 < length text.now) × (length text.now ≤ 65535) }
+        requires fit { self.old.sheet.passed + length text.now < 18446744073709551615 }
+        ensures took { Took self.old.sheet (length text.now) result self.new.sheet }
+        ensures settles { Settles text.now last result }
+    {
+        let seen = judge(text);
+        if !super::counts::settled(text, last, seen) {
+            return Ok(None);
+        }
+        match seen {
+            Err(fault) => Err(self.refuse(text, Reason::Text(fault))),
+            Ok(next) => match places(text, &mut self.starts, &mut self.ends) {
+                None => Err(self.refuse(text, Reason::TooMany)),
+                Some(n) => {
+                    self.list(text, next, n);
+                    Ok(Some(next))
+                }
+            },
+        }
+    }
+
+    // The settled records of the window from a place on, one after another; whole says that the input ends with it. The answer is where the rest begins.
+    // Each record says how far it goes, so no `for`; the place is one in the window, and so is the answer.
+    pub(crate) fn take_all(
+        &mut self,
+        window: &[u8],
+        from: usize,
+        whole: bool,
+    ) -> Result<usize, Ending>
+        requires within { (from ≤ length window.now) × (length window.now ≤ 65536) }
+        requires fit { self.old.sheet.passed + length window.now < 18446744073709551615 }
+        ensures { Went self.old.sheet from (length window.now) result self.new.sheet }
+    {
+        let mut at = from;
+        while at < window.len() {
+            let end = window.len().min(at + 65535);
+            match self.take(&window[at..end], whole && end == window.len())? {
+                None => return Ok(at),
+                Some(next) => at += next,
+            }
+            if !self.page.heard {
+                return Err(Ending::OutputClosed);
+            }
+        }
+        Ok(at)
+    }
 }

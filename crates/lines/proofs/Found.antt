@@ -65,3 +65,6 @@ found text at n x d few long ends e t ex =
     let lfed : eqb (get_or (drop at text) n 0) lf ≡ true = eq-eqb _ _ (get_or-drop at text n 0 ∙ ends) in
     let is : x ≡ says (take n (drop at text)) = ex ∙ ap low_in (cut text at n) ∙ low_says (take n (drop at text)) all short in
     rw (le-leb _ _ few, lt-ltb _ _ u, all, lfed, is)
+
+-- all the ways that the code goes
+pub ruleset ways = (too_many, at_its_end, too_short, unended, no_digits, found)

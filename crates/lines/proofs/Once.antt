@@ -1,20 +1,14 @@
 -- One answer: any two results that meet a function's generated contract on the same arguments are the same.
 use mathlib.Core.Path.{◌≡◌, sym, ◌∙◌}
-use Prim.Native.Nat.{ℕ}
 use contract.Lifetimes.{Lfts}
 use denote.Triple.Clauses.{AtExit}
 use borrow.Fn.World.{ArgsD, ResD}
-use Rattle.lines.specs.declared.Lines.{Lines}
-use Rattle.lines.specs.declared.Taken.{Taken}
-use Rattle.lines.specs.Line.{line_at}
 use Rattle.lines.specs.contracts.line_at as line_at·fn
 use Rattle.lines.proofs.line_at.Reads as line_at·reads
 use Rattle.lines.specs.contracts.line_from as line_from·fn
 use Rattle.lines.proofs.line_from.Reads as line_from·reads
-use Rattle.lines.specs.contracts.is_number as is_number·fn
-use Rattle.lines.proofs.is_number.Reads as is_number·reads
-use Rattle.lines.specs.contracts.number_of as number_of·fn
-use Rattle.lines.proofs.number_of.Reads as number_of·reads
+use Rattle.lines.specs.contracts.Lines.next_line as next_line·fn
+use Rattle.lines.proofs.Lines.next_line.Reads as next_line·reads
 
 -- a are the arguments, r and r' are results, and e and e' the arguments as they are at the return
 module _ (κs : Lfts 1) where
@@ -26,19 +20,6 @@ module _ (κs : Lfts 1) where
       → line_from·reads.Learnt κs a r e → line_from·reads.Learnt κs a r' e' → r ≡ r'
   line_from_once a r r' e e' p q = p ∙ sym q
 
-module _ (κs : Lfts 0) where
-  pub is_number_once : (a : ArgsD is_number·fn.signature κs) (r r' : ResD is_number·fn.signature κs) (e e' : AtExit is_number·fn.ended κs)
-      → is_number·reads.Learnt κs a r e → is_number·reads.Learnt κs a r' e' → r ≡ r'
-  is_number_once a r r' e e' p q = p ∙ sym q
-
-  pub number_of_once : (a : ArgsD number_of·fn.signature κs) (r r' : ResD number_of·fn.signature κs) (e e' : AtExit number_of·fn.ended κs)
-      → number_of·reads.Learnt κs a r e → number_of·reads.Learnt κs a r' e' → r ≡ r'
-  number_of_once a r r' e e' p q = p ∙ sym q
-
--- `next_line` takes a reader, which holds a reference, and of such a function no `Learnt` is made: this is its `ensures`, word by word
-module _ (self : Lines) (k : ℕ) where
-  abbrev Ensured : Taken → Type 0
-  Ensured r = (r.rest.text ≡ self.text) × (r.rest.at ≡ (line_at self.text.now self.at k).next) × (r.line ≡ (line_at self.text.now self.at k).line)
-
-  pub next_line_once : (r r' : Taken) → Ensured r → Ensured r' → r ≡ r'
-  next_line_once r r' p q i = record { rest = record { text = (p.0 ∙ sym q.0) i; at = (p.1 ∙ sym q.1) i }; line = (p.2 ∙ sym q.2) i }
+pub next_line_once : (κs : Lfts 2) (a : ArgsD next_line·fn.signature κs) (r r' : ResD next_line·fn.signature κs) (e e' : AtExit next_line·fn.ended κs)
+    → next_line·reads.Learnt κs a r e → next_line·reads.Learnt κs a r' e' → (r ≡ r') × (e.0.now ≡ e'.0.now)
+next_line_once κs a r r' e e' p q = (p.0 ∙ sym q.0, p.1 ∙ sym q.1)

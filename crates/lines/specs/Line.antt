@@ -1,8 +1,6 @@
 -- A line of a text: so many lower-case hexadecimal digits and a line feed; what stands at a place, and where the next line begins.
-use Rattle.std.specs.Prelude.{ℕ, ◌+◌, Bool, true, false, cond, ◌&&◌, List, ltb, leb, eqb, length, get_or, take, drop}
+use Rattle.std.specs.Prelude.{ℕ, ◌+◌, Bool, cond, ◌&&◌, List, ltb, leb, eqb, length, get_or, take, drop, Some, None}
 use Rattle.digits.specs.Hex.{are_digits, says, lf}
-use Rattle.lines.specs.declared.Line.{Line}
-use Rattle.lines.specs.declared.Line.TheVariants.{Number, Other}
 use Rattle.lines.specs.declared.Step.{Step}
 
 -- n digits and a line feed come first
@@ -15,19 +13,10 @@ field at n text = says (take n (drop at text))
 
 -- a line was found there, or none: sixteen digits at most are a number of 64 bits
 abbrev pub found_at : (at n x : ℕ) → Step
-found_at at n x = record { line = Number x; next = at + n + 1 }
+found_at at n x = record { line = Some x; next = at + n + 1 }
 
 abbrev pub none_at : (at : ℕ) → Step
-none_at at = record { line = Other; next = at }
+none_at at = record { line = None; next = at }
 
 unfoldable pub line_at : (text : List ℕ) (at n : ℕ) → Step
 line_at text at n = cond (leb n 16 && is_line n (drop at text)) (found_at at n (field at n text)) (none_at at)
-
--- whether it is a line, and the number that it says; 0 for none
-abbrev pub is_number : Line → Bool
-is_number (Number x) = true
-is_number Other = false
-
-abbrev pub number_in : Line → ℕ
-number_in (Number x) = x
-number_in Other = 0

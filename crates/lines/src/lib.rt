@@ -2,7 +2,7 @@
 #![tactic(auto)]
 
 ghost use Rattle.std.specs.Prelude.{◌≡◌};
-ghost use Rattle.lines.specs.Line.{line_at, is_number, number_in};
+ghost use Rattle.lines.specs.Line.{line_at};
 
 // A lent text, and the place in it from which the next line is read.
 #[derive(Clone, Copy)]
@@ -11,33 +11,20 @@ pub struct Lines<'a> {
     pub at: usize,
 }
 
-// What stands at a place: a line, which says a number, or something else.
-#[derive(Clone, Copy)]
-pub enum Line {
-    Number(u64),
-    Other,
-}
-
-// What was found at a place, and where the next line begins.
+// What was found at a place, the number that its line says or none, and where the next line begins.
 #[derive(Clone, Copy)]
 pub struct Step {
-    pub line: Line,
+    pub line: Option<u64>,
     pub next: usize,
 }
 
-// What was found, and the reader moved on past it.
-#[derive(Clone, Copy)]
-pub struct Taken<'a> {
-    pub rest: Lines<'a>,
-    pub line: Line,
-}
-
 // The work, on a text and a number: the line of k digits at a place.
+#[tactic(auto, using(crate::proofs::Found::ways))]
 pub fn line_at(text: &[u8], at: usize, k: usize) -> Step
     ensures { result ≡ line_at text.now at k }
 {
     let none = Step {
-        line: Line::Other,
+        line: None,
         next: at,
     };
     if 16 < k {
@@ -56,7 +43,7 @@ pub fn line_at(text: &[u8], at: usize, k: usize) -> Step
     let part = &text[at..end];
     if digits::are_digits(part) {
         return Step {
-            line: Line::Number(digits::low(part)),
+            line: Some(digits::low(part)),
             next: end + 1,
         };
     }
@@ -64,49 +51,25 @@ pub fn line_at(text: &[u8], at: usize, k: usize) -> Step
 }
 
 impl<'a> Lines<'a> {
-    pub fn next_line(self, k: usize) -> Taken<'a>
-        ensures { (result.rest.text ≡ self.entry.text) × (result.rest.at ≡ (line_at self.entry.text.now self.entry.at k).next)
-            × (result.line ≡ (line_at self.entry.text.now self.entry.at k).line) }
+    // The number of the line at the place, and the reader moved on past it.
+    pub fn next_line(&mut self, k: usize) -> Option<u64>
+        ensures { (result ≡ (line_at self.old.text.now self.old.at k).line) × (self.new ≡ record self.old { at = (line_at self.old.text.now self.old.at k).next }) }
     {
         let step = line_at(self.text, self.at, k);
-        Taken {
-            rest: Lines {
-                text: self.text,
-                at: step.next,
-            },
-            line: step.line,
-        }
+        self.at = step.next;
+        step.line
     }
 }
 
 // The reader for a caller that has the text and the place as a slice and a number: its promise speaks of no reader, so the caller's proof needs none.
+// `line_at` promises the same: asked for are thin functions over that, by which a text and its place stay together (decision 62).
 pub fn line_from(text: &[u8], at: usize, k: usize) -> Step
     ensures { result ≡ line_at text.now at k }
 {
-    let lines = Lines { text, at };
-    let taken = lines.next_line(k);
+    let mut lines = Lines { text, at };
+    let line = lines.next_line(k);
     Step {
-        line: taken.line,
-        next: taken.rest.at,
-    }
-}
-
-// Whether it is a line.
-pub fn is_number(line: Line) -> bool
-    ensures { result ≡ is_number line }
-{
-    match line {
-        Line::Number(_) => true,
-        Line::Other => false,
-    }
-}
-
-// The number that it says; 0 for none.
-pub fn number_of(line: Line) -> u64
-    ensures { result ≡ number_in line }
-{
-    match line {
-        Line::Number(x) => x,
-        Line::Other => 0,
+        line,
+        next: lines.at,
     }
 }

@@ -1,15 +1,10 @@
--- The laws that the proofs of the calls on two cite, that each call is an event of demand 3, that it has one answer, and upstream's clauses.
-pub mod ToldRings
-pub mod ToldVectors
-pub mod ToldMixed
-pub mod OursRings
-pub mod OursVectors
-pub mod OursMixed
-pub mod OnceRings
-pub mod OnceVectors
-pub mod OnceMixed
+-- What the proofs of the calls on two containers cite, that each call is an event of demand 3, that it has one answer.
+pub mod Told
+pub mod Ours
+pub mod Once
+pub mod Upstream
 pub mod UpstreamRings
 pub mod UpstreamVectors
-pub mod Same
-pub mod Sums
 pub mod Home
+pub mod Sums
+pub mod Sameness

@@ -1,4 +1,2 @@
--- What the promises on two containers cite.
-pub mod Rings
-pub mod Vectors
-pub mod Mixed
+-- What the promises of the calls on two containers cite.
+pub mod Seen

@@ -6,7 +6,6 @@ pub mod Local
 pub mod Quick
 pub mod Runs
 pub mod Spans
-pub mod Stopping
 pub mod Passing
 pub mod Laying
 pub mod Placing
@@ -15,4 +14,5 @@ pub mod Order
 pub mod Summing
 pub mod Saying
 pub mod Undoing
+pub mod Telling
 pub mod Kept

@@ -8,8 +8,9 @@ use Rattle.slots.specs.Layout.{vector}
 use Rattle.table.specs.World.{World, called_two, Ours}
 use Rattle.table.proofs.Laws.Named.{Are, ours_called_two}
 use Rattle.vector.specs.Seen.{tray}
-use Rattle.pairs.specs.Vectors.{seen2}
-use Rattle.record.specs.Recorded.{recording}
+use Rattle.table.specs.Answers.{numbered}
+use Rattle.pairs.specs.Seen.{both, seen2}
+use Rattle.record.specs.Recorded.{of_vector, recording}
 use Rattle.record.proofs.Laws.Kept.{recording_kept}
 use Rattle.record.specs.contracts.read as read·fn
 use Rattle.record.proofs.read.Reads as read·reads
@@ -18,5 +19,5 @@ use Rattle.record.proofs.read.Reads as read·reads
 module _ (w : World) (i j : ℕ) (κs : Lfts 3) where
   pub read_ours : (a : ArgsD read·fn.signature κs) (r : ResD read·fn.signature κs) (e : AtExit read·fn.ended κs)
       → Are w i j vector vector (tray a.1.0 a.1.1.0.now) (tray a.1.1.1.0 a.1.1.1.1.0.now) → read·reads.Learnt κs a r e
-      → Ours w (called_two i j (recording a.0.now) (seen2 r e.1.1.0.now e.1.1.1.1.0.now))
+      → Ours w (called_two i j (recording a.0.now) (seen2 of_vector of_vector (numbered (both a.1.0 a.1.1.1.0) r) e.1.1.0.now e.1.1.1.1.0.now))
   read_ours a r e are learnt = ours_called_two w i j _ _ _ _ _ _ (recording_kept a.0.now) refl are learnt.row

@@ -2,27 +2,62 @@
 #![tactic(auto)]
 
 pub mod texts; // texts.rt: the calls on a text alone
-mod answers; // answers.rt: the answers on two vectors, and what a record that is read writes
+mod answers; // answers.rt: what a record that is read writes, and the answer on two vectors
+mod kept; // kept.rt: the places of the first fields, and what goes from there into the slots
 
-ghost use Rattle.std.specs.Prelude.{◌≡◌, ◌+◌, ◌≤◌, ◌<◌, length, take, drop, set};
-ghost use Rattle.std.proofs.lemmas.List.Edits.{sets};
+ghost use Rattle.std.specs.Prelude.{◌≡◌, ◌+◌, ◌≤◌, ◌<◌, Option, Some, None, length, take, drop};
+ghost use Rattle.std.specs.List.{list_any, position};
 ghost use Rattle.record.specs.Scan.{special, starts, scanned};
 ghost use Rattle.record.specs.Places.{firsts, lasts};
-ghost use Rattle.record.specs.Steps.{run, any, is_quote, body_run, field_at, stop_of, number_of, comes_to, tally, Judged};
-ghost use Rattle.record.specs.Recorded.{longest, early, Records};
+ghost use Rattle.record.specs.Steps.{run, is_quote, body_run, field_at, stop_of, outcome, refusal_of, place_told, Judged};
+ghost use Rattle.record.specs.Recorded.{longest, early, number_told, Records};
 
-use pairs::vectors::Both;
+use kept::Kept;
+use table::answers::{Answer, Both, Refusal};
 use vector::Vector;
 
-// The field at a place: where its bytes start and end, and the position behind it.
+// Why a text starts with no record, and where it goes wrong.
+#[derive(Clone, Copy, Debug, PartialEq, Eq)]
+pub enum Fault {
+    // the byte at a position may not stand there
+    Stray(u32),
+    // the quote at a position is never closed
+    Unclosed(u32),
+    // the text has more than 65,535 bytes
+    Long,
+}
+
+impl From<Fault> for Refusal {
+    ghost from_gives = { λ f e. e ≡ refusal_of f };
+
+    fn from(f: Fault) -> Refusal {
+        match f {
+            Fault::Stray(_) => Refusal::Stray,
+            Fault::Unclosed(_) => Refusal::Unclosed,
+            Fault::Long => Refusal::Long,
+        }
+    }
+}
+
+// The position that is told with it; 0 of a text that is too long.
+impl From<Fault> for u32 {
+    ghost from_gives = { λ f n. n ≡ place_told f };
+
+    fn from(f: Fault) -> u32 {
+        match f {
+            Fault::Stray(at) => at,
+            Fault::Unclosed(at) => at,
+            Fault::Long => 0,
+        }
+    }
+}
+
+// A field: where its bytes start and end, and the position behind it.
 #[derive(Clone, Copy)]
-enum Found {
-    Field {
-        start: usize,
-        end: usize,
-        next: usize,
-    },
-    Unclosed,
+struct Found {
+    start: usize,
+    end: usize,
+    next: usize,
 }
 
 // What stands behind a field: a comma; the end of the record, with where the next one starts; a byte that may not.
@@ -33,74 +68,60 @@ enum Stop {
     Bad,
 }
 
-// What a text comes to: 0 with where the next record starts, 9 with the byte that may not stand there, 10 with the quote that is never closed;
-// and the fields up to there.
-#[derive(Clone, Copy)]
-struct Verdict {
-    number: u8,
-    count: usize,
-    at: usize,
-}
-
 // Whether a byte may not stand in a field that is not quoted.
 fn special(b: u8) -> bool
     ensures { result ≡ special b }
 {
-    (b == 44) | ((b == 34) | ((b == 13) | (b == 10)))
+    matches!(b, b',' | b'"' | b'\r' | b'\n')
 }
 
 // Whether a byte stands at a position.
+// Here and below a text and a place: each answers a place, from which the next one goes on; a struct of both would be made at each step.
 fn stands(text: &[u8], at: usize, b: u8) -> bool
     ensures { result ≡ starts b (drop at text.now) }
 {
-    if at < text.len() {
-        return text[at] == b;
-    }
-    false
+    text.get(at) == Some(&b)
 }
 
 // Where the bytes of a field that is not quoted end.
+// By the library's position, on the text from there on, `read` takes 9 of 100 instructions more on short fields, which just reach their 1.20 (docs/PERFORMANCE.md).
 fn plain_end(text: &[u8], from: usize) -> usize
     requires { from ≤ length text.now }
     ensures { result ≡ from + run special (drop from text.now) }
 {
-    let mut i = from;
-    while i < text.len() {
+    for i in from..text.len() {
         if special(text[i]) {
             return i;
         }
-        i += 1;
     }
-    i
+    text.len()
 }
 
-// Whether a quote stands among sixteen bytes. There is no exit inside, so that the compiler looks at all of them at once.
-fn quote_among(text: &[u8], at: usize) -> bool
-    requires { at + 16 ≤ length text.now }
-    ensures { result ≡ any is_quote (take 16 (drop at text.now)) }
+// Whether a quote stands in a block.
+fn quote_among(block: &[u8]) -> bool
+    ensures { result ≡ list_any is_quote block.now }
 {
-    let mut found = false;
-    let mut j = 0;
-    while j < 16 {
-        found = found | (text[at + j] == 34);
-        j += 1;
-    }
-    found
+    block.contains(&b'"')
 }
 
-// Blocks without a quote are passed.
+// Blocks of sixteen bytes without a quote are passed.
+// It steps by sixteen. The library's position over chunks tells a block's number, or none where all are passed, so the place would be worked out in two ways.
 fn clear_blocks(text: &[u8], from: usize) -> usize
     requires { from ≤ length text.now }
     ensures { (result ≤ length text.now) × (result + run is_quote (drop result text.now) ≡ from + run is_quote (drop from text.now)) }
 {
     let mut i = from;
-    while 16 <= text.len() - i {
-        if quote_among(text, i) {
-            return i;
-        }
+    while 16 <= text.len() - i && !quote_among(&text[i..i + 16]) {
         i += 16;
     }
     i
+}
+
+// The first quote.
+fn first_quote(left: &[u8]) -> Option<usize>
+    ensures { result ≡ position is_quote left.now }
+{
+    left.iter().position(|b| *b == b'"')
 }
 
 // Where the next quote stands, or the end of the text.
@@ -108,57 +129,47 @@ fn next_quote(text: &[u8], from: usize) -> usize
     requires { from ≤ length text.now }
     ensures { result ≡ from + run is_quote (drop from text.now) }
 {
-    let mut i = clear_blocks(text, from);
-    while i < text.len() {
-        let b = text[i];
-        if b == 34 {
-            return i;
-        }
-        i += 1;
-    }
-    i
+    let i = clear_blocks(text, from);
+    i + first_quote(&text[i..]).unwrap_or(text.len() - i)
 }
 
 // Where the quote stands that closes a field, or the end of the text. Two quotes are one byte of the field.
+#[tactic(auto, using(crate::proofs::Laws::Runs::quoted_less, crate::proofs::Laws::Runs::pair_inside, crate::proofs::Laws::Runs::quoted_stop))]
 fn quoted_end(text: &[u8], from: usize) -> usize
     requires { from ≤ length text.now }
     ensures { result ≡ from + body_run (drop from text.now) }
 {
     let mut i = next_quote(text, from);
-    while i < text.len() {
-        let second = i + 1;
-        if stands(text, second, 34) {
-            i = next_quote(text, second + 1);
-        } else {
-            return i;
-        }
+    while stands(text, i + 1, b'"') {
+        i = next_quote(text, i + 2);
     }
     i
 }
 
-// The field at a place.
-fn field(text: &[u8], at: usize) -> Found
+// The field at a place, or none if its quote is never closed.
+#[tactic(auto, using(crate::proofs::Laws::Spans::quote_inside, crate::proofs::Laws::Spans::found_quoted, crate::proofs::Laws::Spans::found_unclosed, crate::proofs::Laws::Spans::found_plain))]
+fn field(text: &[u8], at: usize) -> Option<Found>
     requires { at ≤ length text.now }
     ensures { result ≡ field_at text.now at }
 {
-    if stands(text, at, 34) {
+    if stands(text, at, b'"') {
         let start = at + 1;
         let end = quoted_end(text, start);
         if end < text.len() {
-            return Found::Field {
+            return Some(Found {
                 start,
                 end,
                 next: end + 1,
-            };
+            });
         }
-        return Found::Unclosed;
+        return None;
     }
     let end = plain_end(text, at);
-    Found::Field {
+    Some(Found {
         start: at,
         end,
         next: end,
-    }
+    })
 }
 
 // What stands behind a field.
@@ -166,218 +177,106 @@ fn behind(text: &[u8], at: usize) -> Stop
     requires { at ≤ length text.now }
     ensures { result ≡ stop_of at (drop at text.now) }
 {
-    if text.len() <= at {
-        return Stop::End(at);
-    }
-    let b = text[at];
-    let second = at + 1;
-    if b == 10 {
-        return Stop::End(second);
-    }
-    if b == 44 {
-        return Stop::Comma;
-    }
-    if b != 13 {
-        return Stop::Bad;
-    }
-    if stands(text, second, 10) {
-        return Stop::End(second + 1);
-    }
-    Stop::Bad
-}
-
-// A number is kept in slot k, if it is one of the sixteen.
-fn keep(kept: &mut [u32; 16], k: usize, x: usize)
-    requires { (length kept.old ≡ 16) × (x < 4294967296) }
-    ensures { kept.new ≡ set kept.old k x }
-{
-    if k < 16 {
-        kept[k] = x as u32;
+    match text.get(at) {
+        None => Stop::End(at),
+        Some(b',') => Stop::Comma,
+        Some(b'\n') => Stop::End(at + 1),
+        Some(b'\r') if stands(text, at + 1, b'\n') => Stop::End(at + 2),
+        _ => Stop::Bad,
     }
 }
 
-// The text is gone through, field by field: what it comes to, and the places of the first sixteen fields.
-fn pass(text: &[u8], begins: &mut [u32; 16], ends: &mut [u32; 16]) -> Verdict
-    requires { (length text.now ≤ longest) × (length begins.old ≡ 16) × (length ends.old ≡ 16) }
-    ensures value { result ≡ tally 0 (scanned text.now) }
-    ensures begins_after { begins.new ≡ sets begins.old 0 (firsts (scanned text.now).fields) }
-    ensures ends_after { ends.new ≡ sets ends.old 0 (lasts (scanned text.now).fields) }
+// The text is gone through, field by field: where the next record starts, or what goes wrong; and the fields up to there are kept.
+// Their count is a local until then: as a part of what is kept it would be read and written at each.
+fn pass(text: &[u8], kept: &mut Kept) -> Result<u32, Fault>
+    requires { length text.now ≤ longest }
+    ensures ending { result ≡ outcome (scanned text.now).ending }
+    ensures judged { Judged text.now kept.new }
 {
     let mut at = 0;
     let mut count = 0;
-    loop {
-        let found = field(text, at);
-        match found {
-            Found::Field { start, end, next } => {
-                keep(begins, count, start);
-                keep(ends, count, end);
-                count += 1;
-                let then = behind(text, next);
-                match then {
-                    Stop::Comma => {
-                        at = next + 1;
-                    }
-                    Stop::End(after) => {
-                        return comes_to(0, count, after);
-                    }
-                    Stop::Bad => {
-                        return comes_to(9, count, next);
-                    }
-                }
+    while let Some(f) = field(text, at) {
+        kept.keep(count, f.start, f.end);
+        count += 1;
+        match behind(text, f.next) {
+            Stop::Comma => {
+                at = f.next + 1;
             }
-            Found::Unclosed => {
-                return comes_to(10, count, at);
+            Stop::End(after) => {
+                kept.count = count;
+                return Ok(after as u32);
+            }
+            Stop::Bad => {
+                kept.count = count;
+                return Err(Fault::Stray(f.next as u32));
             }
         }
     }
+    kept.count = count;
+    Err(Fault::Unclosed(at as u32))
 }
 
-fn comes_to(number: u8, count: usize, at: usize) -> Verdict
-    ensures { result ≡ comes_to number count at }
-{
-    Verdict { number, count, at }
-}
-
-// What is refused whatever the text says: 1, 2, 5 and 11, else 0.
-fn refusal(cap: usize, len: usize, room: usize, count: usize, size: usize) -> u8
-    ensures { result ≡ early cap len room count size }
+// What is refused whatever the text says.
+fn refusal(cap: usize, len: usize, room: usize, count: usize, size: usize) -> Result<(), Refusal>
+    ensures { number_told result ≡ early cap len room count size }
 {
     if table::invalid_vector(cap, len) {
-        return 1;
+        return Err(Refusal::Invalid);
     }
     if table::invalid_vector(room, count) {
-        return 2;
+        return Err(Refusal::SecondInvalid);
     }
     if len != 0 {
-        return 5;
+        return Err(Refusal::Taken);
     }
     if count != 0 {
-        return 5;
+        return Err(Refusal::Taken);
     }
     if 65535 < size {
-        return 11;
+        return Err(Refusal::Long);
     }
-    0
-}
-
-// The kept places go into the slots, in one loop: two block moves of so few numbers take longer.
-fn lay(slots: &mut [u32], theirs: &mut [u32], begins: &[u32], ends: &[u32], count: usize)
-    requires { (count ≤ length slots.old) × (count ≤ length theirs.old) × (count ≤ length begins.now) × (count ≤ length ends.now) }
-    ensures slots_after { slots.new ≡ sets slots.old 0 (take count begins.now) }
-    ensures theirs_after { theirs.new ≡ sets theirs.old 0 (take count ends.now) }
-{
-    let mut k = 0;
-    while k < count {
-        slots[k] = begins[k];
-        theirs[k] = ends[k];
-        k += 1;
-    }
-}
-
-// Where each field starts and ends goes into the slots. A comma stands behind each but the last.
-fn place_all(text: &[u8], count: usize, slots: &mut [u32], theirs: &mut [u32])
-    requires text_len_bound { (length text.now ≤ longest) × (count ≡ length (scanned text.now).fields) × (number_of (scanned text.now).ending ≡ 0) }
-    requires count_in_bounds { (count ≤ length slots.old) × (count ≤ length theirs.old) }
-    ensures slots_after { slots.new ≡ sets slots.old 0 (firsts (scanned text.now).fields) }
-    ensures theirs_after { theirs.new ≡ sets theirs.old 0 (lasts (scanned text.now).fields) }
-{
-    let mut at = 0;
-    let mut k = 0;
-    while k < count {
-        let found = field(text, at);
-        match found {
-            Found::Field { start, end, next } => {
-                slots[k] = start as u32;
-                theirs[k] = end as u32;
-                at = next + 1;
-                k += 1;
-            }
-            Found::Unclosed => {
-                return;
-            }
-        }
-    }
-}
-
-// The fields' places go into the slots: those that were kept, or, of a record with more fields than that, those that are found again.
-fn place(
-    text: &[u8],
-    count: usize,
-    begins: &[u32],
-    ends: &[u32],
-    slots: &mut [u32],
-    theirs: &mut [u32],
-)
-    requires judged { Judged text.now count begins.now ends.now × (number_of (scanned text.now).ending ≡ 0) }
-    requires count_in_bounds { (count ≤ length slots.old) × (count ≤ length theirs.old) }
-    ensures slots_after { slots.new ≡ sets slots.old 0 (firsts (scanned text.now).fields) }
-    ensures theirs_after { theirs.new ≡ sets theirs.old 0 (lasts (scanned text.now).fields) }
-{
-    if 16 < count {
-        place_all(text, count, slots, theirs);
-        return;
-    }
-    lay(slots, theirs, begins, ends, count);
+    Ok(())
 }
 
 // The text was judged: it is refused for what it says or for want of room, or the places go into the slots.
 fn settle(
     text: &[u8],
-    v: Verdict,
-    begins: &[u32],
-    ends: &[u32],
+    ending: Result<u32, Fault>,
+    kept: &Kept,
     first: Vector,
     slots: &mut [u32],
     second: Vector,
     theirs: &mut [u32],
-) -> Both
+) -> Result<Answer<Both<Vector, Vector>>, Refusal>
     requires value { 0 ≡ early (length slots.old) first.len (length theirs.old) second.len (length text.now) }
-    requires v_value { v ≡ tally 0 (scanned text.now) }
-    requires judged { Judged text.now v.count begins.now ends.now }
+    requires ending { ending ≡ outcome (scanned text.now).ending }
+    requires judged { Judged text.now kept.now }
     ensures { Records text.now first slots.old second theirs.old result slots.new theirs.new }
 {
-    let number = v.number;
-    let count = v.count;
-    if number != 0 {
-        return answers::refused(number, first, second);
+    let at = ending?;
+    if slots.len() < kept.count {
+        return Err(Refusal::Full);
     }
-    if slots.len() < count {
-        return answers::refused(6, first, second);
+    if theirs.len() < kept.count {
+        return Err(Refusal::Full);
     }
-    if theirs.len() < count {
-        return answers::refused(6, first, second);
-    }
-    let at = v.at as u32;
-    answers::enter(
-        text,
-        at,
-        count,
-        begins,
-        ends,
-        first.total,
-        slots,
-        second.total,
-        theirs,
-    )
+    Ok(answers::enter(text, at, kept, first.total, slots, second.total, theirs))
 }
 
-// The record at the start of a text: where its fields start goes on the first vector, where they end on the second. The first sixteen places are
-// kept while the text is judged, since a refused call changes no slot, and most records need no second look.
+// The record at the start of a text: where its fields start goes on the first vector, where they end on the second. The first sixteen places are kept
+// while the text is judged, since a refused call changes no slot, and most records need no second look.
+// A vector's state and its slots come one by one, as C passes them: one value of both would be taken apart again in each function here.
 pub fn read(
     text: &[u8],
     first: Vector,
     slots: &mut [u32],
     second: Vector,
     theirs: &mut [u32],
-) -> Both
+) -> Result<Answer<Both<Vector, Vector>>, Refusal>
     ensures { Records text.now first slots.old second theirs.old result slots.new theirs.new }
 {
-    let early = refusal(slots.len(), first.len, theirs.len(), second.len, text.len());
-    if early != 0 {
-        return answers::refused(early, first, second);
-    }
-    let mut begins = [0u32; 16];
-    let mut ends = [0u32; 16];
-    let v = pass(text, &mut begins, &mut ends);
-    settle(text, v, &begins, &ends, first, slots, second, theirs)
+    refusal(slots.len(), first.len, theirs.len(), second.len, text.len())?;
+    let mut kept = Kept::none();
+    let ending = pass(text, &mut kept);
+    settle(text, ending, &kept, first, slots, second, theirs)
 }

@@ -2,56 +2,37 @@
 ghost use Rattle.std.specs.Prelude.{◌≡◌, ◌<◌, ◌≤◌, length};
 ghost use Rattle.std.proofs.lemmas.List.Edits.{sets};
 ghost use Rattle.record.specs.Undone.{undone};
-ghost use Rattle.record.specs.Recorded.{told, judges};
+ghost use Rattle.record.specs.Recorded.{judged, judges};
 ghost use Rattle.record.specs.Steps.{past};
 ghost use Rattle.record.specs.Unquoted.{Unquotes};
 
-use super::{pass, stands};
-
-// An answer on a text alone.
-#[derive(Clone, Copy)]
-pub struct Told {
-    pub number: u8,
-    pub value: u32,
-}
+use super::kept::Kept;
+use super::{Fault, pass};
+use table::answers::Refusal;
 
 // What a text comes to: where the next record starts, or where this one goes wrong.
-#[tactic(auto, using(crate::proofs::Laws::Saying::judged_long, crate::proofs::Laws::Saying::judged, crate::proofs::Laws::Saying::place_fits))]
-pub fn judge(text: &[u8]) -> Told
-    ensures { result ≡ judges text.now }
+pub fn judge(text: &[u8]) -> Result<u32, Fault>
+    ensures { judged result ≡ judges text.now }
 {
-    let size = text.len();
-    if 65535 < size {
-        return tells(11, 0);
+    if 65535 < text.len() {
+        return Err(Fault::Long);
     }
-    let mut begins = [0u32; 16];
-    let mut ends = [0u32; 16];
-    let v = pass(text, &mut begins, &mut ends);
-    tells(v.number, v.at as u32)
-}
-
-fn tells(number: u8, value: u32) -> Told
-    ensures { result ≡ told number value }
-{
-    Told { number, value }
+    pass(text, &mut Kept::none())
 }
 
 // The position behind a byte of the field: two quotes are one byte.
+// A part and a place, as in lib.rt: the answer is the next place.
 fn behind_byte(part: &[u8], at: usize) -> usize
     requires { at < length part.now }
     ensures { result ≡ past part.now at }
 {
-    let second = at + 1;
-    if part[at] != 34 {
-        return second;
+    match &part[at..] {
+        [b'"', b'"', ..] => at + 2,
+        _ => at + 1,
     }
-    if stands(part, second, 34) {
-        return second + 1;
-    }
-    second
 }
 
-// How many bytes a field's text has.
+// How many bytes a field's text has. Here and below a step goes over one byte or over two, which no range and no iterator of the library does.
 fn undone_size(part: &[u8]) -> usize
     ensures { result ≡ length (undone part.now) }
 {
@@ -80,23 +61,23 @@ fn put_undone(part: &[u8], out: &mut [u8])
 }
 
 // The bytes of a text from a start to an end, as a field's text: doubled quotes are undone.
-pub fn field_text(text: &[u8], start: usize, end: usize, out: &mut [u8]) -> Told
+pub fn field_text(text: &[u8], start: usize, end: usize, out: &mut [u8]) -> Result<u32, Refusal>
     ensures { Unquotes text.now start end out.old result out.new }
 {
     if 65535 < text.len() {
-        return tells(11, 0);
+        return Err(Refusal::Long);
     }
     if end < start {
-        return tells(3, 0);
+        return Err(Refusal::Beyond);
     }
     if text.len() < end {
-        return tells(3, 0);
+        return Err(Refusal::Beyond);
     }
     let part = &text[start..end];
     let size = undone_size(part);
     if out.len() < size {
-        return tells(6, 0);
+        return Err(Refusal::Full);
     }
     put_undone(part, out);
-    tells(0, size as u32)
+    Ok(size as u32)
 }

@@ -1,2 +1,2 @@
--- The laws behind the promises of `replay`.
+-- The law behind the promises of `replay`.
 pub mod Taken

@@ -1,8 +1,6 @@
 -- Which lines of `replay` can be taken.
-use Rattle.std.specs.Prelude.{ℕ, Bool, true, false, not, ◌&&◌, ◌||◌, List, length, take, drop, eqb, ltb, leb}
+use Rattle.std.specs.Prelude.{ℕ, Bool, not, ◌&&◌, ◌||◌, List, length, take, drop, eqb, ltb, leb}
 use Rattle.digits.specs.Hex.{are_digits, says}
-use Rattle.replay.specs.declared.asked.Verdict.{Verdict}
-use Rattle.replay.specs.declared.asked.Verdict.TheVariants.{Placing, Call, Damaged, Unknown, Beyond}
 
 -- from one number to another, both with it
 abbrev pub among : (op a b : ℕ) → Bool
@@ -40,11 +38,3 @@ field from count l = says (take count (drop from l))
 -- a line that can be taken, where the containers have so many slots and the text so many bytes: 34 digits that say such an operation and its numbers
 unfoldable pub takes : (l : List ℕ) (cap cap2 size : ℕ) → Bool
 takes l cap cap2 size = (eqb (length l) 34 && are_digits l) && reaches (field 0 2 l) (field 2 16 l) (field 18 16 l) cap cap2 size
-
--- what the program makes of a line: whether it is taken
-abbrev pub is_taken : Verdict → Bool
-is_taken (Placing q) = true
-is_taken (Call q) = true
-is_taken Damaged = false
-is_taken Unknown = false
-is_taken Beyond = false

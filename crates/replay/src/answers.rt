@@ -1,101 +1,75 @@
 // What an answer leaves on the desk: what the call names is changed, and the rest stays. A call on a vector leaves head 0.
-use crate::desks::Desk;
-use cursors::{Begun, Cursor, Step, Taken};
+use crate::desks::{Desk, State};
+use containers::Container;
+use cursors::Cursor;
+use ring::Ring;
+use table::answers;
+use table::answers::{Answer, Both, Refusal};
+use vector::Vector;
 
-// What a call answers, the slot that it reports, how many bytes are printed after the slots, and the desk afterwards.
+// What is printed of an answer beside the desk, and the slot that it reports.
+// The number is the papers', since it is printed. `Numbered` without its state, field by field: `..a` copies nothing where the state's type differs.
 #[derive(Clone, Copy)]
 pub(crate) struct Did {
     pub(crate) number: u8,
     pub(crate) value: u32,
     pub(crate) moves: usize,
     pub(crate) slot: usize,
-    pub(crate) shown: usize,
-    pub(crate) desk: Desk,
+}
+
+impl Did {
+    // A part and a check bear no number and report no slot: the part's length, or yes or no, stands as the value.
+    pub(crate) fn shows(value: u32) -> Did {
+        Did {
+            number: 0,
+            value,
+            moves: 0,
+            slot: slots::NO_SLOT,
+        }
+    }
+}
+
+// What a call leaves, and where it stands on the desk.
+pub(crate) trait Left: Copy {
+    fn lay(self, desk: &mut Desk);
+}
+
+// A ring's and a vector's are alike: an impl for every Container would stand beside Cursor's and Both's, and impls may not overlap.
+impl Left for Ring {
+    fn lay(self, desk: &mut Desk) {
+        desk.first.state = State::of(self);
+    }
+}
+
+impl Left for Vector {
+    fn lay(self, desk: &mut Desk) {
+        desk.first.state = State::of(self);
+    }
+}
+
+impl Left for Cursor {
+    fn lay(self, desk: &mut Desk) {
+        desk.cursor = self;
+    }
+}
+
+impl<A: Left, B: Container> Left for Both<A, B> {
+    fn lay(self, desk: &mut Desk) {
+        self.first.lay(desk);
+        desk.second.state = State::of(self.second);
+    }
 }
 
 impl Desk {
-    fn did(self, number: u8, value: u32, moves: usize, slot: usize) -> Did {
+    // What a call answered that was given this, as the papers number it. A refused call leaves what it was given.
+    pub(crate) fn after<S: Left>(&mut self, given: S, told: Result<Answer<S>, Refusal>) -> Did {
+        let a = answers::in_numbers(given, told);
+        a.state.lay(self);
         Did {
-            number,
-            value,
-            moves,
-            slot,
-            shown: 0,
-            desk: self,
+            number: a.number,
+            value: a.value,
+            moves: a.moves,
+            slot: a.slot,
         }
-    }
-
-    pub(crate) fn after_ring(mut self, a: ring::Answer) -> Did {
-        let first = a.ring;
-        self.first = first;
-        self.did(a.number, a.value, a.moves, a.slot)
-    }
-
-    pub(crate) fn after_vector(mut self, a: vector::Answer) -> Did {
-        self.first = crate::desks::ring(a.vector);
-        self.did(a.number, a.value, a.moves, a.slot)
-    }
-
-    pub(crate) fn after_rings(mut self, a: pairs::rings::Both) -> Did {
-        let first = a.first;
-        let second = a.second;
-        self.first = first;
-        self.second = second;
-        self.did(a.number, a.value, a.moves, a.slot)
-    }
-
-    pub(crate) fn after_vectors(mut self, a: pairs::vectors::Both) -> Did {
-        self.first = crate::desks::ring(a.first);
-        self.second = crate::desks::ring(a.second);
-        self.did(a.number, a.value, a.moves, a.slot)
-    }
-
-    pub(crate) fn after_mixed(mut self, a: pairs::mixed::Both) -> Did {
-        let first = a.first;
-        self.first = first;
-        self.second = crate::desks::ring(a.second);
-        self.did(a.number, a.value, a.moves, a.slot)
-    }
-
-    // A part bears no number and reports no slot: its length stands as the value, and a line for each entry is shown.
-    pub(crate) fn after_part(mut self, count: usize) -> Did {
-        let n = crate::desks::least(count, 4200);
-        self.first = ring::state(0, self.first.len, self.first.total);
-        let mut did = self.did(0, n as u32, 0, slots::NO_SLOT);
-        did.shown = 9 * n;
-        did
-    }
-
-    // A check bears no number either: its yes or no stands as the value, and the desk stays.
-    pub(crate) fn after_check(self, yes: bool) -> Did {
-        let value = if yes { 1 } else { 0 };
-        self.did(0, value, 0, slots::NO_SLOT)
-    }
-
-    fn after_walk(mut self, number: u8, value: u32, slot: usize, cursor: Cursor) -> Did {
-        self.cursor = cursor;
-        self.did(number, value, 0, slot)
-    }
-
-    pub(crate) fn after_begun(self, b: Begun) -> Did {
-        let cursor = b.cursor;
-        self.after_walk(b.number, 0, b.slot, cursor)
-    }
-
-    // A step and a peek report no slot.
-    pub(crate) fn after_step(self, s: Step) -> Did {
-        let slot = slots::NO_SLOT;
-        match s {
-            Step::Entry(x, cursor) => self.after_walk(0, x, slot, cursor),
-            Step::Invalid(cursor) => self.after_walk(1, 0, slot, cursor),
-            Step::Astray(cursor) => self.after_walk(3, 0, slot, cursor),
-            Step::Ended(cursor) => self.after_walk(4, 0, slot, cursor),
-        }
-    }
-
-    pub(crate) fn after_taken(mut self, t: Taken) -> Did {
-        let cursor = t.cursor;
-        self.second = crate::desks::ring(t.vector);
-        self.after_walk(t.number, 0, t.slot, cursor)
     }
 }

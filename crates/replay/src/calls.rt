@@ -1,38 +1,49 @@
 // The calls, by the numbers that docs/REPLAY.md gives them. asked.rt lets no number through that stands for none, so the last call of a family
 // needs no test of its own.
-use crate::answers::Did;
+// Why they stay numbers is said at `Asked`.
+use crate::answers::{Did, Left};
 use crate::asked::Asked;
-use crate::desks::Desk;
+use crate::desks::{Desk, State};
+use crate::prints::Page;
+use containers::Container;
 use cursors::Cursor;
 use ring::Ring;
+use table::answers::{Answer, Both, Refusal};
 use vector::Vector;
 
-pub(crate) fn call(
-    q: Asked,
-    desk: Desk,
-    slots: &mut [u32],
-    theirs: &mut [u32],
-    text: &mut [u8],
-    out: &mut [u8],
-) -> Did {
-    let op = q.op;
-    let first = desk.first;
-    let over = crate::desks::vector(first);
-    match op {
-        0x10..=0x1e => desk.after_ring(on_ring(op, q.a, q.x, first, slots)),
-        0x20..=0x33 => desk.after_vector(on_vector(q, over, slots, theirs)),
-        0x38..=0x3d => desk.after_part(crate::shows::part(q, over, slots, out)),
-        0x40..=0x43 => desk.after_rings(on_rings(op, q.a, desk, slots, theirs)),
-        0x44 => desk.after_mixed(on_mixed(desk, slots, theirs)),
-        0x50..=0x53 => desk.after_vectors(on_vectors(op, q.a, desk, slots, theirs)),
-        0x60..=0x66 => over_ring(op, q.a, desk, slots, theirs),
-        0x70..=0x76 => over_vector(op, q.a, desk, slots, theirs),
-        0x80..=0x84 => crate::texts::call(q, desk, slots, text, out),
-        _ => desk.after_ring(within(q, desk, slots)), // 90 and 91
+// A making and a reading start from no entries, and leave none where they are refused.
+fn starts_anew(op: u8) -> bool {
+    matches!(op, 0x10 | 0x11 | 0x20 | 0x21 | 0x28 | 0x82 | 0x83)
+}
+
+// A call, and what it shows.
+pub(crate) fn call(q: Asked, desk: &mut Desk, shown: &mut Page) -> Did {
+    if starts_anew(q.op) {
+        desk.first.state = State::none();
+    }
+    match q.op {
+        0x10..=0x1e => on_ring(q, desk),
+        0x20..=0x33 => on_vector(q, desk),
+        0x38..=0x3d => crate::shows::part(q, desk, shown),
+        0x40..=0x43 => on_both::<Ring>(q, desk),
+        0x44 => on_mixed(desk),
+        0x50..=0x53 => on_both::<Vector>(q, desk),
+        0x60..=0x66 => over::<Ring>(q, desk),
+        0x70..=0x76 => over::<Vector>(q, desk),
+        0x80..=0x84 => crate::texts::call(q, desk, shown),
+        _ => within(q, desk), // 90 and 91
     }
 }
 
-fn on_ring(op: u64, a: usize, x: u32, over: Ring, slots: &mut [u32]) -> ring::Answer {
+// A ring's calls and a vector's stay apart: they are others by other numbers, and one of a vector's reads the second's slots.
+fn on_ring(q: Asked, desk: &mut Desk) -> Did {
+    let over = Ring::from(desk.first.state);
+    let told = ring_told(q, over, desk.first.lent());
+    desk.after(over, told)
+}
+
+fn ring_told(q: Asked, over: Ring, slots: &mut [u32]) -> Result<Answer<Ring>, Refusal> {
+    let Asked { op, a, x, .. } = q;
     match op {
         0x10 => Ring::new(slots),
         0x11 => Ring::with_capacity(slots, a),
@@ -53,20 +64,30 @@ fn on_ring(op: u64, a: usize, x: u32, over: Ring, slots: &mut [u32]) -> ring::An
 }
 
 // With an allowance, which is the cursor's front: a line has no third number. The cursor stays.
-fn within(q: Asked, desk: Desk, slots: &mut [u32]) -> ring::Answer {
-    let op = q.op;
-    let over = desk.first;
+fn within(q: Asked, desk: &mut Desk) -> Did {
+    let over = Ring::from(desk.first.state);
     let allowance = desk.cursor.front;
-    match op {
+    let slots = desk.first.lent();
+    let told = match q.op {
         0x90 => over.insert_within(slots, q.a, q.x, allowance),
         _ => over.remove_within(slots, q.a, allowance), // 91
-    }
+    };
+    desk.after(over, told)
 }
 
-fn on_vector(q: Asked, over: Vector, slots: &mut [u32], theirs: &[u32]) -> vector::Answer {
-    let op = q.op;
-    let a = q.a;
-    let x = q.x;
+fn on_vector(q: Asked, desk: &mut Desk) -> Did {
+    let over = Vector::from(desk.first.state);
+    let told = vector_told(q, over, desk.first.lent(), desk.second.lent());
+    desk.after(over, told)
+}
+
+fn vector_told(
+    q: Asked,
+    over: Vector,
+    slots: &mut [u32],
+    theirs: &[u32],
+) -> Result<Answer<Vector>, Refusal> {
+    let Asked { op, a, b, x } = q;
     match op {
         0x20 => Vector::new(slots),
         0x21 => Vector::with_capacity(slots, a),
@@ -83,84 +104,71 @@ fn on_vector(q: Asked, over: Vector, slots: &mut [u32], theirs: &[u32]) -> vecto
         0x2c => over.truncate(slots, a),
         0x2d => over.resize(slots, a, x),
         0x2e => over.clear(slots),
-        0x2f => {
-            let n = crate::desks::least(a, theirs.len());
-            over.extend_from_slice(slots, &theirs[0..n])
-        }
+        0x2f => over.extend_from_slice(slots, &theirs[..a.min(theirs.len())]),
         0x30 => over.is_empty(slots),
         0x31 => over.try_reserve(slots, a),
         0x32 => over.try_reserve_exact(slots, a),
-        _ => over.ask_range(slots, a, q.b), // 33
+        _ => over.ask_range(slots, a, b), // 33
     }
 }
 
-fn on_rings(
-    op: u64,
-    at: usize,
-    desk: Desk,
-    slots: &mut [u32],
-    theirs: &mut [u32],
-) -> pairs::rings::Both {
-    let first = desk.first;
-    let second = desk.second;
-    match op {
-        0x40 => pairs::rings::append(first, slots, second, theirs),
-        0x41 => pairs::rings::split_off(first, slots, at, second, theirs),
-        0x42 => pairs::rings::clone(first, slots, second, theirs),
-        _ => pairs::rings::same(first, slots, second, theirs), // 43
-    }
+// Both as rings, or both as vectors: the last digit says the call.
+fn on_both<C: Container + From<State> + Left>(q: Asked, desk: &mut Desk) -> Did {
+    let first = C::from(desk.first.state);
+    let second = C::from(desk.second.state);
+    let slots = desk.first.lent();
+    let theirs = desk.second.lent();
+    let told = match q.op % 16 {
+        0 => pairs::append(first, slots, second, theirs),
+        1 => pairs::split_off(first, slots, q.a, second, theirs),
+        2 => pairs::clone(first, slots, second, theirs),
+        _ => pairs::same(first, slots, second, theirs),
+    };
+    desk.after(Both { first, second }, told)
 }
 
 // The first as a ring, the second as a vector.
-fn on_mixed(desk: Desk, slots: &[u32], theirs: &[u32]) -> pairs::mixed::Both {
-    let second = crate::desks::vector(desk.second);
-    pairs::mixed::same_as_vector(desk.first, slots, second, theirs)
+fn on_mixed(desk: &mut Desk) -> Did {
+    let first = Ring::from(desk.first.state);
+    let second = Vector::from(desk.second.state);
+    let told = pairs::same(first, desk.first.lent(), second, desk.second.lent());
+    desk.after(Both { first, second }, told)
 }
 
-fn on_vectors(
-    op: u64,
-    at: usize,
-    desk: Desk,
-    slots: &mut [u32],
-    theirs: &mut [u32],
-) -> pairs::vectors::Both {
-    let first = crate::desks::vector(desk.first);
-    let second = crate::desks::vector(desk.second);
-    match op {
-        0x50 => pairs::vectors::append(first, slots, second, theirs),
-        0x51 => pairs::vectors::split_off(first, slots, at, second, theirs),
-        0x52 => pairs::vectors::clone(first, slots, second, theirs),
-        _ => pairs::vectors::equal(first, slots, second, theirs), // 53
+// The cursor's calls over the first, as a ring or as a vector: the last digit says the call. Where iter is refused the cursor is 0, 0.
+fn over<C: Container + From<State> + Left>(q: Asked, desk: &mut Desk) -> Did {
+    let over = C::from(desk.first.state);
+    over.lay(desk);
+    let call = q.op % 16;
+    if call == 6 {
+        return filled(over, desk);
     }
-}
-
-fn over_ring(op: u64, k: usize, desk: Desk, slots: &[u32], theirs: &mut [u32]) -> Did {
-    let over = desk.first;
+    if call < 2 {
+        desk.cursor = Cursor { front: 0, back: 0 };
+    }
     let by = desk.cursor;
-    let to = crate::desks::vector(desk.second);
-    match op {
-        0x60 => desk.after_begun(Cursor::ring_iter(over, slots)),
-        0x61 => desk.after_begun(Cursor::ring_into_iter(over, slots)),
-        0x62 => desk.after_step(by.ring_step_front(over, slots)),
-        0x63 => desk.after_step(by.ring_step_back(over, slots)),
-        0x64 => desk.after_step(by.ring_peek_front(over, slots, k)),
-        0x65 => desk.after_step(by.ring_peek_back(over, slots, k)),
-        _ => desk.after_taken(by.ring_from_iter(over, slots, to, theirs)), // 66
-    }
+    let slots = desk.first.lent();
+    let told = match call {
+        0 => Cursor::iter(over, slots),
+        1 => Cursor::into_iter(over, slots),
+        2 => by.step_front(over, slots),
+        3 => by.step_back(over, slots),
+        4 => by.peek_front(over, slots, q.a),
+        _ => by.peek_back(over, slots, q.a), // 5
+    };
+    desk.after(by, told)
 }
 
-fn over_vector(op: u64, k: usize, mut desk: Desk, slots: &[u32], theirs: &mut [u32]) -> Did {
-    let over = crate::desks::vector(desk.first);
+// from_iter fills the second, a vector.
+fn filled<C: Container>(over: C, desk: &mut Desk) -> Did {
     let by = desk.cursor;
-    let to = crate::desks::vector(desk.second);
-    desk.first = crate::desks::ring(over);
-    match op {
-        0x70 => desk.after_begun(Cursor::vector_iter(over, slots)),
-        0x71 => desk.after_begun(Cursor::vector_into_iter(over, slots)),
-        0x72 => desk.after_step(by.vector_step_front(over, slots)),
-        0x73 => desk.after_step(by.vector_step_back(over, slots)),
-        0x74 => desk.after_step(by.vector_peek_front(over, slots, k)),
-        0x75 => desk.after_step(by.vector_peek_back(over, slots, k)),
-        _ => desk.after_taken(by.vector_from_iter(over, slots, to, theirs)), // 76
-    }
+    let to = Vector::from(desk.second.state);
+    let told = by.from_iter(over, desk.first.lent(), to, desk.second.lent());
+    desk.after(
+        Both {
+            first: by,
+            second: to,
+        },
+        told,
+    )
 }

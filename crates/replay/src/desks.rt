@@ -1,111 +1,162 @@
 // What stands on the desk, two containers, a cursor and a text, and what is placed there.
-ghost use Rattle.std.specs.Prelude.{◌≤◌};
+ghost use Rattle.std.specs.Prelude.{◌≡◌, ◌≤◌};
 
-use crate::asked::Asked;
+use crate::asked::{Asked, Counts};
+use crate::texts::Text;
+use containers::Container;
 use cursors::Cursor;
 use ring::Ring;
 use runs::total;
+use runs::total::Total;
 use vector::Vector;
 
-// How many of the lent slots each container has and how many of the lent bytes the text, the containers with their totals, and the cursor. A vector is its
-// length and its total, with head 0.
+// The most slots of a container.
+const MOST: usize = 4200;
+
+// A container's state. Whether it is a ring or a vector is said by the call that is made on it: a call on a vector looks at no head, and leaves 0.
+// So it is no Ring, though it has a ring's fields.
 #[derive(Clone, Copy)]
-pub(crate) struct Desk {
+pub(crate) struct State {
+    pub(crate) head: usize,
+    pub(crate) len: usize,
+    pub(crate) total: Total,
+}
+
+impl State {
+    // Without entries.
+    pub(crate) fn none() -> State {
+        State::of(ring::state(0, 0, total::none()))
+    }
+
+    pub(crate) fn of<C: Container>(container: C) -> State {
+        State {
+            head: container.head(),
+            len: container.len(),
+            total: container.total(),
+        }
+    }
+}
+
+impl From<State> for Ring {
+    fn from(s: State) -> Ring {
+        ring::state(s.head, s.len, s.total)
+    }
+}
+
+impl From<State> for Vector {
+    fn from(s: State) -> Vector {
+        vector::state(s.len, s.total)
+    }
+}
+
+// A container: its slots, of which it has so many, and its state.
+// No ghost field bounds cap, so that `count` does: tried, and `lent`, which makes a slice of a field, then gets no proof.
+// An array and a count, as in texts.rt: a Vec may fail to be had, and there is no answer for that.
+#[derive(Drop)]
+pub(crate) struct Tray {
+    slots: [u32; MOST],
     pub(crate) cap: usize,
-    pub(crate) cap2: usize,
-    pub(crate) size: usize,
-    pub(crate) first: Ring,
-    pub(crate) second: Ring,
+    pub(crate) state: State,
+}
+
+impl Tray {
+    fn new() -> Tray {
+        Tray {
+            slots: [0; MOST],
+            cap: 0,
+            state: State::none(),
+        }
+    }
+
+    // So many slots, all 0, and no entry.
+    fn clear(&mut self, cap: usize) {
+        self.slots.fill(0);
+        self.cap = cap.min(MOST);
+        self.state = State::none();
+    }
+
+    // Another head and length: the total stays.
+    fn set(&mut self, head: usize, len: usize) {
+        self.state = State {
+            head,
+            len,
+            ..self.state
+        };
+    }
+
+    // How many slots it has.
+    fn count(&self) -> usize
+        ensures { result ≤ 4200 }
+    {
+        self.cap.min(MOST)
+    }
+
+    // Its slots.
+    pub(crate) fn held(&self) -> &[u32] {
+        &self.slots[..self.count()]
+    }
+
+    // The slots that a call is lent.
+    pub(crate) fn lent(&mut self) -> &mut [u32] {
+        let count = self.count();
+        &mut self.slots[..count]
+    }
+}
+
+// Two containers, a cursor and a text.
+#[derive(Drop)]
+pub(crate) struct Desk {
+    pub(crate) first: Tray,
+    pub(crate) second: Tray,
     pub(crate) cursor: Cursor,
-}
-
-pub(crate) fn vector(of: Ring) -> Vector {
-    vector::state(of.len, of.total)
-}
-
-pub(crate) fn ring(of: Vector) -> Ring {
-    ring::state(0, of.len, of.total)
-}
-
-// A container without entries.
-fn empty() -> Ring {
-    ring::state(0, 0, total::none())
-}
-
-fn cursor(front: usize, back: usize) -> Cursor {
-    Cursor { front, back }
-}
-
-// The desk at the start.
-pub(crate) fn cleared() -> Desk {
-    Desk {
-        cap: 0,
-        cap2: 0,
-        size: 0,
-        first: empty(),
-        second: empty(),
-        cursor: cursor(0, 0),
-    }
-}
-
-pub(crate) fn least(a: usize, b: usize) -> usize
-    ensures { (result ≤ a) × (result ≤ b) }
-{
-    if a < b { a } else { b }
-}
-
-// How many of the lent slots a container has.
-pub(crate) fn count(cap: usize, lent: usize) -> usize
-    ensures { (result ≤ 4200) × (result ≤ lent) }
-{
-    least(least(cap, 4200), lent)
-}
-
-// All of a run of slots is 0.
-fn bare(slots: &mut [u32]) {
-    let mut i = 0;
-    while i < slots.len() {
-        slots[i] = 0;
-        i += 1;
-    }
+    pub(crate) text: Text,
 }
 
 // A slot that isn't there is passed over.
 pub(crate) fn lay(slots: &mut [u32], at: usize, x: u32) {
-    if at < slots.len() {
-        slots[at] = x;
+    if let Some(slot) = slots.get_mut(at) {
+        *slot = x;
     }
 }
 
-// Operations 01 to 0b: asked.rt lets no other through.
-pub(crate) fn place(
-    q: Asked,
-    mut desk: Desk,
-    first: &mut [u32],
-    second: &mut [u32],
-    text: &mut [u8],
-) -> Desk {
-    let op = q.op;
-    match op {
-        0x01 => {
-            bare(first);
-            desk.cap = q.a;
-            desk.first = empty();
+impl Desk {
+    // The desk at the start.
+    pub(crate) fn new() -> Desk {
+        Desk {
+            first: Tray::new(),
+            second: Tray::new(),
+            cursor: Cursor { front: 0, back: 0 },
+            text: Text::new(),
         }
-        0x02 => desk.first = ring::state(q.a, q.b, desk.first.total),
-        0x03 => lay(first, q.a, q.x),
-        0x04 => {
-            bare(second);
-            desk.cap2 = q.a;
-            desk.second = empty();
-        }
-        0x05 => desk.second = ring::state(q.a, q.b, desk.second.total),
-        0x06 => lay(second, q.a, q.x),
-        0x07 => desk.cursor = cursor(q.a, q.b),
-        0x08 => desk.first.total.sum = q.a as u64,
-        0x09 => desk.second.total.sum = q.a as u64,
-        0x0a => desk.size = crate::texts::sized(desk.size, q.a, text),
-        _ => crate::texts::lay(text, q.a, q.x), // 0b
     }
-    desk
+
+    // What a line can reach.
+    pub(crate) fn counts(&self) -> Counts
+        ensures { (result.cap ≡ self.now.first.cap) × (result.cap2 ≡ self.now.second.cap) × (result.size ≡ self.now.text.size) }
+    {
+        Counts {
+            cap: self.first.cap,
+            cap2: self.second.cap,
+            size: self.text.size,
+        }
+    }
+
+    // Operations 01 to 0b: asked.rt lets no other through.
+    // By number, as `Asked` has it.
+    pub(crate) fn place(&mut self, q: Asked) {
+        let Asked { op, a, b, x } = q;
+        match op {
+            0x01 => self.first.clear(a),
+            0x02 => self.first.set(a, b),
+            0x03 => lay(&mut self.first.slots, a, x),
+            0x04 => self.second.clear(a),
+            0x05 => self.second.set(a, b),
+            0x06 => lay(&mut self.second.slots, a, x),
+            0x07 => self.cursor = Cursor { front: a, back: b },
+            0x08 => self.first.state.total.sum = a as u64,
+            0x09 => self.second.state.total.sum = a as u64,
+            0x0a => self.text.resize(a),
+            _ => self.text.lay(a, x), // 0b
+        }
+    }
 }

@@ -1,71 +1,88 @@
 // What is printed of a call: its answer with both containers, the cursor, the slot that it reports and both totals in one line, then a line for each slot.
-// What would not fit into the text is left out, so that nothing is asked of a caller; `main` lends enough for the largest desk.
+ghost use Rattle.std.specs.Prelude.{◌≤◌};
+
 use crate::answers::Did;
 use crate::desks::Desk;
+use std::io::Write;
 
-// A number in so many digits, and the byte that ends it; the place after it.
-fn put_word(out: &mut [u8], at: usize, count: usize, x: u64, end: u8) -> usize {
-    let room = out.len();
-    if room <= at {
-        return at;
+// The answer line of 170, and 9 bytes for each of 4,200 slots twice: more than a text of 40,000 and its LF.
+const ROOM: usize = 75770;
+
+// What is to be printed. What would not fit is left out, so that nothing is asked of a caller; there is room for the largest desk.
+// An array and a count, as in texts.rt.
+#[derive(Drop)]
+pub(crate) struct Page {
+    bytes: [u8; ROOM],
+    at: usize,
+    ghost within: { at ≤ 75770 },
+}
+
+impl Page {
+    pub(crate) fn new() -> Page {
+        Page {
+            bytes: [0; ROOM],
+            at: 0,
+        }
     }
-    if room - at <= count {
-        return at;
+
+    pub(crate) fn put(&mut self, part: &[u8]) {
+        let n = part.len();
+        if n <= ROOM - self.at {
+            self.bytes[self.at..self.at + n].copy_from_slice(part);
+            self.at += n;
+        }
     }
-    digits::put_hex(out, at, count, x);
-    out[at + count] = end;
-    at + count + 1
-}
 
-// A head and a length, or a front and a back.
-fn put_two(out: &mut [u8], at: usize, x: usize, y: usize, end: u8) -> usize {
-    let next = put_word(out, at, 16, x as u64, b' ');
-    put_word(out, next, 16, y as u64, end)
-}
-
-fn put_line(out: &mut [u8], at: usize, x: u32) -> usize {
-    put_word(out, at, 8, x as u64, b'\n')
-}
-
-// A line for each slot, from a place on; the place after them.
-pub(crate) fn put_slots(out: &mut [u8], from: usize, slots: &[u32]) -> usize {
-    let mut at = from;
-    let mut i = 0;
-    while i < slots.len() {
-        at = put_line(out, at, slots[i]);
-        i += 1;
+    // A number in so many digits, and the byte that ends it.
+    fn put_word(&mut self, count: usize, x: u64, end: u8) {
+        if count < ROOM - self.at {
+            digits::put_hex(&mut self.bytes, self.at, count, x);
+            self.bytes[self.at + count] = end;
+            self.at += count + 1;
+        }
     }
-    at
-}
 
-fn put_answer(out: &mut [u8], did: Did) -> usize {
-    let mut at = put_word(out, 0, 2, did.number as u64, b' ');
-    at = put_word(out, at, 8, did.value as u64, b' ');
-    put_word(out, at, 16, did.moves as u64, b' ')
-}
+    // A line for each slot.
+    pub(crate) fn put_slots(&mut self, slots: &[u32]) {
+        for x in slots {
+            self.put_word(8, u64::from(*x), b'\n');
+        }
+    }
 
-fn put_desk(out: &mut [u8], from: usize, desk: Desk) -> usize {
-    let first = desk.first;
-    let second = desk.second;
-    let cursor = desk.cursor;
-    let mut at = put_two(out, from, first.head, first.len, b' ');
-    at = put_two(out, at, second.head, second.len, b' ');
-    put_two(out, at, cursor.front, cursor.back, b' ')
-}
+    // Four digits say a slot; the low ones of a larger number, which no call may report, would pass for another, so that it is shown as fffe.
+    fn put_answer(&mut self, did: Did, desk: &Desk) {
+        let first = desk.first.state;
+        let second = desk.second.state;
+        self.put_word(2, u64::from(did.number), b' ');
+        self.put_word(8, u64::from(did.value), b' ');
+        self.put_word(16, did.moves as u64, b' ');
+        let places = [
+            first.head,
+            first.len,
+            second.head,
+            second.len,
+            desk.cursor.front,
+            desk.cursor.back,
+        ];
+        for x in places {
+            self.put_word(16, x as u64, b' ');
+        }
+        let slot = if 0xffff < did.slot { 0xfffe } else { did.slot };
+        self.put_word(4, slot as u64, b' ');
+        self.put_word(16, first.total.sum, b' ');
+        self.put_word(16, second.total.sum, b'\n');
+    }
 
-fn put_totals(out: &mut [u8], at: usize, desk: Desk) -> usize {
-    let next = put_word(out, at, 16, desk.first.total.sum, b' ');
-    put_word(out, next, 16, desk.second.total.sum, b'\n')
-}
+    // All of it.
+    pub(crate) fn put_all(&mut self, did: Did, desk: &Desk) {
+        self.put_answer(did, desk);
+        self.put_slots(desk.first.held());
+        self.put_slots(desk.second.held());
+    }
 
-// All of it. Four digits say a slot; the low ones of a larger number, which no call may report, would pass for another, so that it is shown as fffe.
-pub(crate) fn print(did: Did, slots: &[u32], theirs: &[u32], out: &mut [u8]) {
-    let desk = did.desk;
-    let slot = if 0xffff < did.slot { 0xfffe } else { did.slot };
-    let mut at = put_answer(out, did);
-    at = put_desk(out, at, desk);
-    at = put_word(out, at, 4, slot as u64, b' ');
-    at = put_totals(out, at, desk);
-    at = put_slots(out, at, slots);
-    put_slots(out, at, theirs);
+    // All that was put down goes out, and the page is empty again.
+    pub(crate) fn write<W: Write>(&mut self, output: &mut W) {
+        let _ = output.write_all(&self.bytes[..self.at]);
+        self.at = 0;
+    }
 }

@@ -1,91 +1,94 @@
 // The text on the desk: what is placed there, what a writer of the stored form leaves there, and what the readers and the check make of it.
-ghost use Rattle.std.specs.Prelude.{◌≤◌, length};
+ghost use Rattle.std.specs.Prelude.{◌≤◌};
 
 use crate::answers::Did;
 use crate::asked::Asked;
-use crate::desks::{Desk, least};
+use crate::desks::Desk;
+use crate::prints::Page;
+use ring::Ring;
+use vector::Vector;
 
-// Each byte of a part is -.
-fn dash(part: &mut [u8]) {
-    let mut i = 0;
-    while i < part.len() {
-        part[i] = b'-';
-        i += 1;
+// The most bytes of a text.
+const ROOM: usize = 40000;
+
+// A text: bytes, of which it has so many.
+// An array and a count: a Vec may fail to be had, and there is no answer for that.
+#[derive(Drop)]
+pub(crate) struct Text {
+    bytes: [u8; ROOM],
+    pub(crate) size: usize,
+    ghost within: { size ≤ 40000 },
+}
+
+impl Text {
+    pub(crate) fn new() -> Text {
+        Text {
+            bytes: [0; ROOM],
+            size: 0,
+        }
     }
-}
 
-// The text has so many bytes from now on: those that were there stay, and new ones are -.
-pub(crate) fn sized(had: usize, bytes: usize, text: &mut [u8]) -> usize
-    ensures { result ≤ length text.old }
-{
-    let n = least(bytes, text.len());
-    let from = least(had, n);
-    dash(&mut text[from..n]);
-    n
-}
+    // Its bytes.
+    pub(crate) fn held(&self) -> &[u8] {
+        &self.bytes[..self.size]
+    }
 
-// A byte that isn't there is passed over, and so is a number that is no byte.
-pub(crate) fn lay(text: &mut [u8], at: usize, x: u32) {
-    if at < text.len() {
-        if x < 256 {
-            text[at] = x as u8;
+    // The text has so many bytes from now on: those that were there stay, and new ones are -.
+    pub(crate) fn resize(&mut self, size: usize) {
+        let n = size.min(ROOM);
+        if self.size < n {
+            self.bytes[self.size..n].fill(b'-');
+        }
+        self.size = n;
+    }
+
+    // A byte that isn't there is passed over, and so is a number that is no byte.
+    pub(crate) fn lay(&mut self, at: usize, x: u32) {
+        if let (Some(byte), Ok(b)) = (self.bytes.get_mut(at), u8::try_from(x)) {
+            *byte = b;
         }
     }
 }
 
-// Operations 80 to 84, on as many of the lent bytes as the text has.
-pub(crate) fn call(
-    q: Asked,
-    desk: Desk,
-    slots: &mut [u32],
-    text: &mut [u8],
-    out: &mut [u8],
-) -> Did {
-    let op = q.op;
-    let n = least(desk.size, text.len());
-    match op {
-        0x80..=0x81 => written(q, desk, slots, text, out),
-        0x82 => desk.after_ring(stored::readers::ring_read(&text[0..n], slots)),
-        0x83 => desk.after_vector(stored::readers::vector_read(&text[0..n], slots)),
-        _ => desk.after_check(stored::judges::check(&text[0..n], q.a as u64)), // 84
+// Operations 80 to 84.
+// By number, as `Asked` has it.
+pub(crate) fn call(q: Asked, desk: &mut Desk, shown: &mut Page) -> Did {
+    let text = desk.text.held();
+    match q.op {
+        0x80..=0x81 => written(q, desk, shown),
+        0x82 => {
+            let told = stored::readers::ring_read(text, desk.first.lent());
+            desk.after(Ring::from(desk.first.state), told)
+        }
+        0x83 => {
+            let told = stored::readers::vector_read(text, desk.first.lent());
+            desk.after(Vector::from(desk.first.state), told)
+        }
+        _ => Did::shows(u32::from(stored::judges::check(text, q.a as u64))), // 84
     }
 }
 
 // The text is lent a bytes, each - before the call; they stay on the desk, and are shown.
-fn written(q: Asked, mut desk: Desk, slots: &[u32], text: &mut [u8], out: &mut [u8]) -> Did {
-    let n = sized(0, q.a, text);
-    desk.size = n;
-    let mut done = stored_into(q.op, desk, slots, &mut text[0..n]);
-    done.shown = show(&text[0..n], out);
-    done
+fn written(q: Asked, desk: &mut Desk, shown: &mut Page) -> Did {
+    desk.text.resize(0);
+    desk.text.resize(q.a);
+    let did = stored_into(q.op, desk);
+    shown.put(desk.text.held());
+    shown.put(b"\n");
+    did
 }
 
-fn stored_into(op: u64, desk: Desk, slots: &[u32], text: &mut [u8]) -> Did {
-    let first = desk.first;
+fn stored_into(op: u8, desk: &mut Desk) -> Did {
+    let state = desk.first.state;
+    let slots = desk.first.lent();
+    let bytes = &mut desk.text.bytes[..];
+    let text = &mut bytes[..desk.text.size];
     if op == 0x80 {
-        return desk.after_ring(stored::ring_text(first, slots, text));
+        let over = Ring::from(state);
+        let told = stored::ring_text(over, slots, text);
+        return desk.after(over, told);
     }
-    let over = crate::desks::vector(first);
-    desk.after_vector(stored::vector_text(over, slots, text))
-}
-
-// The bytes as they stand, and LF after them; how many that is.
-fn show(text: &[u8], out: &mut [u8]) -> usize {
-    let n = least(text.len(), out.len());
-    copy(text, out, n);
-    if n < out.len() {
-        out[n] = b'\n';
-        return n + 1;
-    }
-    n
-}
-
-fn copy(from: &[u8], to: &mut [u8], count: usize)
-    requires { (count ≤ length from.now) × (count ≤ length to.old) }
-{
-    let mut i = 0;
-    while i < count {
-        to[i] = from[i];
-        i += 1;
-    }
+    let over = Vector::from(state);
+    let told = stored::vector_text(over, slots, text);
+    desk.after(over, told)
 }

@@ -10,54 +10,55 @@ use denote.MutBor.{MutBor}
 use denote.Triple.Clauses.{AtExit}
 use Rattle.slots.specs.Layout.{ring}
 use Rattle.table.specs.Tray.{Tray}
+use Rattle.table.specs.Answers.{numbered}
 use Rattle.table.specs.Calls.{Call, push}
 use Rattle.table.proofs.Theorems.Home.{done_home}
 use Rattle.table.proofs.Theorems.Stack.{stacked, Lies, lies}
 use Rattle.ring.specs.declared.Ring.{Ring}
-use Rattle.ring.specs.declared.Answer.{Answer}
-use Rattle.ring.specs.Seen.{tray, Meets}
+use Rattle.ring.specs.Seen.{tray, Meets, Answered}
 use Rattle.ring.proofs.Upstream.{Valid}
 use Rattle.ring.proofs.Ring as fn
 use Rattle.ring.specs.contracts.Ring as promise
 
 -- whichever call it was
-pub call_home : (call : Call) (v : Ring) (s z : List ℕ) (a : Answer) → Meets call v s a z → a.number ≡ 0 → a.ring.len ≡ 0 → a.ring.head ≡ 0
+pub call_home : (call : Call) (v : Ring) (s z : List ℕ) (a : Answered) → Meets call v s a z → (numbered v a).number ≡ 0 → (numbered v a).state.len ≡ 0
+    → (numbered v a).state.head ≡ 0
 call_home call v s z a meets = done_home ring call (tray v s) _ meets.row
 
 -- In what follows v is the ring and s its slots, r is the result, and e the arguments as they are at the return. Those that can take the last entry out:
-module _ (κs : Lfts 1) (v : Ring) (s : MutBor (List ℕ)) (r : Answer) where
-  pub pop_back_home : (e : AtExit promise.pop_back.ended κs) → fn.pop_back.Reads.Learnt κs (v, (s, tt)) r e → r.number ≡ 0
-      → r.ring.len ≡ 0 → r.ring.head ≡ 0
+module _ (κs : Lfts 1) (v : Ring) (s : MutBor (List ℕ)) (r : Answered) where
+  pub pop_back_home : (e : AtExit promise.pop_back.ended κs) → fn.pop_back.Reads.Learnt κs (v, (s, tt)) r e → (numbered v r).number ≡ 0
+      → (numbered v r).state.len ≡ 0 → (numbered v r).state.head ≡ 0
   pop_back_home e learnt = call_home _ _ _ _ _ learnt
 
-  pub pop_front_home : (e : AtExit promise.pop_front.ended κs) → fn.pop_front.Reads.Learnt κs (v, (s, tt)) r e → r.number ≡ 0
-      → r.ring.len ≡ 0 → r.ring.head ≡ 0
+  pub pop_front_home : (e : AtExit promise.pop_front.ended κs) → fn.pop_front.Reads.Learnt κs (v, (s, tt)) r e → (numbered v r).number ≡ 0
+      → (numbered v r).state.len ≡ 0 → (numbered v r).state.head ≡ 0
   pop_front_home e learnt = call_home _ _ _ _ _ learnt
 
-  pub remove_home : (i : ℕ) (e : AtExit promise.remove.ended κs) → fn.remove.Reads.Learnt κs (v, (s, (i, tt))) r e → r.number ≡ 0
-      → r.ring.len ≡ 0 → r.ring.head ≡ 0
+  pub remove_home : (i : ℕ) (e : AtExit promise.remove.ended κs) → fn.remove.Reads.Learnt κs (v, (s, (i, tt))) r e → (numbered v r).number ≡ 0
+      → (numbered v r).state.len ≡ 0 → (numbered v r).state.head ≡ 0
   remove_home i e learnt = call_home _ _ _ _ _ learnt
 
-  pub truncate_home : (k : ℕ) (e : AtExit promise.truncate.ended κs) → fn.truncate.Reads.Learnt κs (v, (s, (k, tt))) r e → r.number ≡ 0
-      → r.ring.len ≡ 0 → r.ring.head ≡ 0
+  pub truncate_home : (k : ℕ) (e : AtExit promise.truncate.ended κs) → fn.truncate.Reads.Learnt κs (v, (s, (k, tt))) r e → (numbered v r).number ≡ 0
+      → (numbered v r).state.len ≡ 0 → (numbered v r).state.head ≡ 0
   truncate_home k e learnt = call_home _ _ _ _ _ learnt
 
-  pub resize_home : (k x : ℕ) (e : AtExit promise.resize.ended κs) → fn.resize.Reads.Learnt κs (v, (s, (k, (x, tt)))) r e → r.number ≡ 0
-      → r.ring.len ≡ 0 → r.ring.head ≡ 0
+  pub resize_home : (k x : ℕ) (e : AtExit promise.resize.ended κs) → fn.resize.Reads.Learnt κs (v, (s, (k, (x, tt)))) r e → (numbered v r).number ≡ 0
+      → (numbered v r).state.len ≡ 0 → (numbered v r).state.head ≡ 0
   resize_home k x e learnt = call_home _ _ _ _ _ learnt
 
-  pub clear_home : (e : AtExit promise.clear.ended κs) → fn.clear.Reads.Learnt κs (v, (s, tt)) r e → r.number ≡ 0
-      → r.ring.len ≡ 0 → r.ring.head ≡ 0
+  pub clear_home : (e : AtExit promise.clear.ended κs) → fn.clear.Reads.Learnt κs (v, (s, tt)) r e → (numbered v r).number ≡ 0
+      → (numbered v r).state.len ≡ 0 → (numbered v r).state.head ≡ 0
   clear_home e learnt = call_home _ _ _ _ _ learnt
 
 -- THE STACK: a ring and its slots before, the entries that `push_back` put on it one after another, and the ring and its slots after.
 pub data Pushed : (v : Ring) (slots xs : List ℕ) (v' : Ring) (slots' : List ℕ) → Type 0 where
   begun : {v : Ring} {s : List ℕ} → Pushed v s [] v s
-  pushed : {v v' : Ring} {s s₁ s' xs : List ℕ} {x : ℕ} {a : Answer} → Meets (push x) v s a s₁ → Pushed a.ring s₁ xs v' s' → Pushed v s (x ∷ xs) v' s'
+  pushed : {v v' : Ring} {s s₁ s' xs : List ℕ} {x : ℕ} {a : Answered} → Meets (push x) v s a s₁ → Pushed (numbered v a).state s₁ xs v' s' → Pushed v s (x ∷ xs) v' s'
 
 -- one more, from the function's own contract: `e.1.0` are the slots as it leaves them
-pub push_back_pushed : (κs : Lfts 1) (v v' : Ring) (s : MutBor (List ℕ)) (x : ℕ) (r : Answer) (e : AtExit promise.push_back.ended κs) (xs s' : List ℕ)
-    → fn.push_back.Reads.Learnt κs (v, (s, (x, tt))) r e → Pushed r.ring e.1.0.now xs v' s' → Pushed v s.now (x ∷ xs) v' s'
+pub push_back_pushed : (κs : Lfts 1) (v v' : Ring) (s : MutBor (List ℕ)) (x : ℕ) (r : Answered) (e : AtExit promise.push_back.ended κs) (xs s' : List ℕ)
+    → fn.push_back.Reads.Learnt κs (v, (s, (x, tt))) r e → Pushed (numbered v r).state e.1.0.now xs v' s' → Pushed v s.now (x ∷ xs) v' s'
 push_back_pushed κs v v' s x r e xs s' learnt rest = pushed learnt rest
 
 pushed_is : {v v' : Ring} {s s' xs : List ℕ} → Pushed v s xs v' s' → tray v' s' ≡ stacked (tray v s) xs

@@ -7,40 +7,42 @@ use contract.Lifetimes.{Lfts}
 use Rattle.slots.proofs.Twice.{Twice}
 use Rattle.table.specs.Calls.{Call, Making}
 use Rattle.table.specs.Does.{Outcome}
+use Rattle.table.specs.Answers.{numbered}
+use Rattle.table.proofs.Laws.Numbered.{same_answer}
 use Rattle.table.proofs.Theorems.Unique.{one_answer}
 use Rattle.ring.specs.declared.Ring.{Ring}
-use Rattle.ring.specs.declared.Answer.{Answer}
-use Rattle.ring.specs.Seen.{seen, Meets, MeetsWithin, Makes, state}
+use Rattle.ring.specs.Seen.{seen, Meets, MeetsWithin, Makes, Answered, state}
 use Rattle.ring.proofs.Ring as fn
 use Rattle.ring.specs.contracts.Ring as promise
 use Rattle.ring.proofs.state as state·fn
 use Rattle.ring.specs.contracts.state as state·promise
 use Rattle.ring.proofs.left as left·fn
 use Rattle.ring.specs.contracts.left as left·promise
-use Rattle.ring.proofs.refused as refused·fn
-use Rattle.ring.specs.contracts.refused as refused·promise
 use Rattle.ring.proofs.shows as shows·fn
 use Rattle.ring.specs.contracts.shows as shows·promise
 use Rattle.ring.proofs.done as done·fn
 use Rattle.ring.specs.contracts.done as done·promise
 
--- an answer is told by what is seen of it, by the slot that it reports and by the total
-pub told_by : (o : Outcome) (n m : ℕ) (r r' : Answer) (s s' : List ℕ) → seen r s ≡ o → seen r' s' ≡ o → r.slot ≡ n → r'.slot ≡ n → r.ring.total.sum ≡ m → r'.ring.total.sum ≡ m
-    → (r ≡ r') × (s ≡ s')
-told_by o n m r r' s s' e e' slot slot' sum sum' =
-    one_answer {B = ℕ × ℕ} seen (λ r. (r.slot, r.ring.total.sum))
-    (λ o b. record { number = o.number; value = o.value; moves = o.moves; slot = b.0; ring = state o.tray.head o.tray.len (record { sum = b.1 }) })
-    (λ r s. refl) (λ r s. refl) o (n, m) r r' s s' e e' (cc) (cc)
+-- an answer or a refusal is told by what is seen of it, by the slot that it reports and by the total; v is the state that was given
+pub told_by : (v : Ring) (o : Outcome) (n m : ℕ) (r r' : Answered) (s s' : List ℕ) → seen (numbered v r) s ≡ o → seen (numbered v r') s' ≡ o
+    → (numbered v r).slot ≡ n → (numbered v r').slot ≡ n → (numbered v r).state.total.sum ≡ m → (numbered v r').state.total.sum ≡ m → (r ≡ r') × (s ≡ s')
+told_by v o n m r r' s s' e e' slot slot' sum sum' =
+    let alike : (numbered v r ≡ numbered v r') × (s ≡ s') =
+    one_answer {B = ℕ × ℕ} seen (λ r. (r.slot, r.state.total.sum))
+    (λ o b. record { number = o.number; value = o.value; moves = o.moves; slot = b.0; state = state o.tray.head o.tray.len (record { sum = b.1 }) })
+    (λ r s. refl) (λ r s. refl) o (n, m) (numbered v r) (numbered v r') s s' e e' (cc) (cc) in
+    (same_answer v r r' alike.0, alike.1)
 
 -- every promise of this crate is `Meets`, with an allowance `MeetsWithin`, a making's `Makes`
-pub one : {call : Call} {v : Ring} {b : List ℕ} (r r' : Answer) (s s' : List ℕ) → Meets call v b r s → Meets call v b r' s' → (r ≡ r') × (s ≡ s')
-one r r' s s' p q = told_by _ _ _ r r' s s' p.row q.row p.slot q.slot p.total q.total
+pub one : {call : Call} {v : Ring} {b : List ℕ} (r r' : Answered) (s s' : List ℕ) → Meets call v b r s → Meets call v b r' s' → (r ≡ r') × (s ≡ s')
+one r r' s s' p q = told_by _ _ _ _ r r' s s' p.row q.row p.slot q.slot p.total q.total
 
-pub one_within : {a : ℕ} {call : Call} {v : Ring} {b : List ℕ} (r r' : Answer) (s s' : List ℕ) → MeetsWithin a call v b r s → MeetsWithin a call v b r' s' → (r ≡ r') × (s ≡ s')
-one_within r r' s s' p q = told_by _ _ _ r r' s s' p.row q.row p.slot q.slot p.total q.total
+pub one_within : {a : ℕ} {call : Call} {v : Ring} {b : List ℕ} (r r' : Answered) (s s' : List ℕ) → MeetsWithin a call v b r s → MeetsWithin a call v b r' s'
+    → (r ≡ r') × (s ≡ s')
+one_within r r' s s' p q = told_by _ _ _ _ r r' s s' p.row q.row p.slot q.slot p.total q.total
 
-one_made : {m : Making} {b : List ℕ} (r r' : Answer) (s s' : List ℕ) → Makes m b r s → Makes m b r' s' → (r ≡ r') × (s ≡ s')
-one_made r r' s s' p q = told_by _ _ _ r r' s s' p.row q.row p.slot q.slot p.total q.total
+one_made : {m : Making} {b : List ℕ} (r r' : Answered) (s s' : List ℕ) → Makes m b r s → Makes m b r' s' → (r ≡ r') × (s ≡ s')
+one_made r r' s s' p q = told_by _ _ _ _ r r' s s' p.row q.row p.slot q.slot p.total q.total
 
 -- In what follows a are the arguments, r and r' are results, and e and e' the arguments as they are at the return.
 module _ (κs : Lfts 1) where
@@ -102,9 +104,6 @@ module _ (κs : Lfts 0) where
 
   pub left_once : Twice left·promise.ended κs (left·fn.Reads.Learnt κs) (λ r e r' e'. r ≡ r')
   left_once a r r' e e' p q = p ∙ sym q
-
-  pub refused_once : Twice refused·promise.ended κs (refused·fn.Reads.Learnt κs) (λ r e r' e'. r ≡ r')
-  refused_once a r r' e e' p q = p ∙ sym q
 
   pub shows_once : Twice shows·promise.ended κs (shows·fn.Reads.Learnt κs) (λ r e r' e'. r ≡ r')
   shows_once a r r' e e' p q = p ∙ sym q

@@ -1,2 +1,3 @@
--- What promises cite of the width of an entry.
+-- What promises cite of the width of an entry, and of a sum by halves.
 pub mod Width
+pub mod Halves

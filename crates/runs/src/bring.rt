@@ -5,44 +5,34 @@ ghost use Rattle.slots.specs.Shift.{Reach};
 ghost use Rattle.slots.specs.Copy.{Laid};
 ghost use Rattle.slots.specs.Total.{total};
 
-use super::total::Total;
-use slots::slot;
+use crate::halves::Halves;
+use crate::parted::parted;
+use crate::total::Total;
 
-// Slots from at on take the numbers of a part, one by one. For a few numbers a plain sum is quicker.
+// Slots from at on take the numbers of a part. A few are added up plainly: by halves an extend of so few is slower, by 5.4 ns to 3.8 at 16 (bench/TRIED.md).
 fn few(slots: &mut [u32], at: usize, part: &[u32]) -> u64
     requires { (at + length part.now ≤ length slots.old) × (length part.now ≤ most) }
     ensures { Laid itself at (length part.now) part.now slots.old slots.new × (result ≡ total part.now) × (result ≤ 2 ^ 45) }
 {
-    let n = part.len();
     let mut sum: u64 = 0;
-    let mut k = 0;
-    while k < n {
-        let x = part[k];
-        slots[at + k] = x;
-        sum += x as u64;
-        k += 1;
+    for (k, x) in part.iter().enumerate() {
+        slots[at + k] = *x;
+        sum += u64::from(*x);
     }
     sum
 }
 
-// The same by halves: the numbers modulo 2 to the 32nd and their high halves. Both sums have 32 bits, so LLVM adds four numbers at once where a sum of 64 bits adds two.
+// The same by halves, and for many that is quicker.
 fn many(slots: &mut [u32], at: usize, part: &[u32]) -> u64
     requires { (at + length part.now ≤ length slots.old) × (length part.now ≤ most) }
     ensures { Laid itself at (length part.now) part.now slots.old slots.new × (result ≡ total part.now) × (result ≤ 2 ^ 45) }
 {
-    let n = part.len();
-    let mut sum: u32 = 0;
-    let mut high: u32 = 0;
-    let mut k = 0;
-    while k < n {
-        let x = part[k];
-        slots[at + k] = x;
-        sum = std::num::wrapping_add_u32(sum, x);
-        high += x / 65536;
-        k += 1;
+    let mut halves = Halves::none();
+    for (k, x) in part.iter().enumerate() {
+        slots[at + k] = *x;
+        halves = halves.with(*x);
     }
-    let low = std::num::wrapping_sub_u32(sum, high % 65536 * 65536);
-    low as u64 + high as u64 * 65536
+    halves.whole()
 }
 
 fn laid(slots: &mut [u32], at: usize, part: &[u32]) -> u64
@@ -73,19 +63,13 @@ pub fn bring_run(slots: &mut [u32], at: usize, theirs: &[u32], from: usize, to: 
     Total { sum }
 }
 
-// Slots from 0 on take what stands at a ring's positions from .. to: a run of its slots, or one to the last slot and one from slot 0.
+// Slots from 0 on take what stands at a ring's positions from .. to.
 pub fn bring_ring(slots: &mut [u32], theirs: &[u32], head: usize, from: usize, to: usize) -> Total
     requires { Reach (length theirs.now) head from to × (to - from ≤ length slots.old) }
     ensures { Laid itself 0 (to - from) (drop from (entries (slot_of (length theirs.now) head) to theirs.now)) slots.old slots.new × (result.sum ≡ total (drop from (entries (slot_of (length theirs.now) head) to theirs.now))) }
 {
-    let start = slot(theirs.len(), head, from);
-    let count = to - from;
-    let gap = theirs.len() - start;
-    if count <= gap {
-        let end = start + count;
-        return bring_run(slots, 0, theirs, start, end);
-    }
-    let sum = laid(slots, 0, &theirs[start..]);
-    let more = laid(slots, gap, &theirs[..count - gap]);
-    Total { sum: sum + more }
+    let runs = parted(theirs.len(), head, from, to);
+    let far = laid(slots, 0, &theirs[runs.start..runs.end]);
+    let near = laid(slots, runs.end - runs.start, &theirs[..runs.rest]);
+    Total { sum: far + near }
 }

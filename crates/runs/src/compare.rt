@@ -1,4 +1,5 @@
 // Whether the first numbers of two lent parts, or the first entries of a ring and of a part or another ring, are the same in the same order: run by run.
+// A count beside two parts: cut to it, both would have to be of one length, which each function would ask in its place.
 ghost use Rattle.std.specs.Prelude.{◌+◌, ◌-◌, ◌≤◌, length, take, drop};
 ghost use Rattle.slots.specs.Layout.{most, slot_of, itself, entries};
 ghost use Rattle.slots.specs.Compare.{Tells};
@@ -10,40 +11,23 @@ fn few(ours: &[u32], theirs: &[u32], count: usize) -> bool
     requires { (count ≤ length ours.now) × (count ≤ length theirs.now) }
     ensures { Tells result (take count ours.now) (take count theirs.now) }
 {
-    let mut k = 0;
-    while k < count {
+    for k in 0..count {
         if ours[k] != theirs[k] {
             return false;
         }
-        k += 1;
     }
     true
 }
 
-// Four numbers from at on. There is no exit inside, so that the compiler compares all of them at once.
-fn four(ours: &[u32], theirs: &[u32], at: usize) -> bool
-    requires { (at + 4 ≤ length ours.now) × (at + 4 ≤ length theirs.now) }
-    ensures { Tells result (take 4 (drop at ours.now)) (take 4 (drop at theirs.now)) }
+// N numbers from at on, of which LLVM compares all at once: there is no exit inside. The library's `==`, sixteen at a time in a function of its own, was tried for all of this:
+// faster at 256 and 4,096, but sameness with a vector at 16 went from 0.89 to 1.28 of the time by hand, where 1.00 is to be reached.
+fn block<const N: usize>(ours: &[u32], theirs: &[u32], at: usize) -> bool
+    requires { (at + N ≤ length ours.now) × (at + N ≤ length theirs.now) }
+    ensures { Tells result (take N (drop at ours.now)) (take N (drop at theirs.now)) }
 {
     let mut alike = true;
-    let mut j = 0;
-    while j < 4 {
+    for j in 0..N {
         alike = alike & (ours[at + j] == theirs[at + j]);
-        j += 1;
-    }
-    alike
-}
-
-// Eight of them, by a loop of their own: of two fours the compiler makes no one thing.
-fn eight(ours: &[u32], theirs: &[u32], at: usize) -> bool
-    requires { (at + 8 ≤ length ours.now) × (at + 8 ≤ length theirs.now) }
-    ensures { Tells result (take 8 (drop at ours.now)) (take 8 (drop at theirs.now)) }
-{
-    let mut alike = true;
-    let mut j = 0;
-    while j < 8 {
-        alike = alike & (ours[at + j] == theirs[at + j]);
-        j += 1;
     }
     alike
 }
@@ -56,10 +40,11 @@ fn short(ours: &[u32], theirs: &[u32], count: usize) -> bool
     if count < 4 {
         return few(ours, theirs, count);
     }
-    four(ours, theirs, 0) & four(ours, theirs, count - 4)
+    block::<4>(ours, theirs, 0) & block::<4>(ours, theirs, count - 4)
 }
 
 // The first count numbers of two parts: eight by eight, and at the end the last eight, whatever these share with those before.
+// Counted by hand: of `for k in (0..last).step_by(8)` LLVM makes a loop with two tests a turn besides the comparison, where this has one.
 pub fn firsts(ours: &[u32], theirs: &[u32], count: usize) -> bool
     requires { (count ≤ length ours.now) × (count ≤ length theirs.now) }
     ensures { Tells result (entries itself count ours.now) (entries itself count theirs.now) }
@@ -70,12 +55,12 @@ pub fn firsts(ours: &[u32], theirs: &[u32], count: usize) -> bool
     let last = count - 8;
     let mut k = 0;
     while k < last {
-        if !eight(ours, theirs, k) {
+        if !block::<8>(ours, theirs, k) {
             return false;
         }
         k += 8;
     }
-    eight(ours, theirs, last)
+    block::<8>(ours, theirs, last)
 }
 
 // The first count entries of a ring, and the first count numbers of a part: a run of slots, or one to the last slot and one from slot 0.
@@ -87,10 +72,7 @@ pub fn ring_with(slots: &[u32], head: usize, part: &[u32], count: usize) -> bool
     if count <= gap {
         return firsts(&slots[head..], part, count);
     }
-    if firsts(&slots[head..], part, gap) {
-        return firsts(slots, &part[gap..], count - gap);
-    }
-    false
+    firsts(&slots[head..], part, gap) && firsts(slots, &part[gap..], count - gap)
 }
 
 // The first count entries of two rings, each with a head of its own: up to three pairs of runs.
@@ -102,9 +84,6 @@ pub fn rings(slots: &[u32], head: usize, theirs: &[u32], first: usize, count: us
     if count <= gap {
         return ring_with(slots, head, &theirs[first..], count);
     }
-    if ring_with(slots, head, &theirs[first..], gap) {
-        let start = slot(slots.len(), head, gap);
-        return ring_with(slots, start, theirs, count - gap);
-    }
-    false
+    ring_with(slots, head, &theirs[first..], gap)
+        && ring_with(slots, slot(slots.len(), head, gap), theirs, count - gap)
 }

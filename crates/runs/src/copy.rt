@@ -4,45 +4,25 @@ ghost use Rattle.slots.specs.Layout.{most, slot_of, itself, entries};
 ghost use Rattle.slots.specs.Shift.{Reach};
 ghost use Rattle.slots.specs.Copy.{Laid};
 
-use slots::{MOST, slot};
+use crate::parted::parted;
 
-// Slots from at on take the first count numbers of the part, one by one.
-fn put(slots: &mut [u32], at: usize, part: &[u32], count: usize)
-    requires { (at + count ≤ length slots.old) × (count ≤ length part.now) }
-    ensures { Laid itself at count part.now slots.old slots.new }
-{
-    let mut k = 0;
-    while k < count {
-        slots[at + k] = part[k];
-        k += 1;
-    }
-}
-
-// The same by way of a local. Two lent runs might overlap for all that LLVM knows, but neither overlaps a local: so each of the two loops is a block
-// move, and LLVM makes one move of both and needs no local.
+// Slots from at on take the first count numbers of the part.
 pub fn run_copy(slots: &mut [u32], at: usize, part: &[u32], count: usize)
     requires { (at + count ≤ length slots.old) × (count ≤ length part.now) × (count ≤ most) }
     ensures { Laid itself at count part.now slots.old slots.new }
 {
-    let mut held = [0; MOST];
-    put(&mut held, 0, part, count);
-    put(slots, at, &held, count);
+    slots[at..at + count].copy_from_slice(&part[..count]);
 }
 
-// A ring's positions from at on take the first count numbers of the part: a run of slots, or one to the last slot and one from slot 0.
+// A ring's positions from at on take the first count numbers of the part.
 fn lay(slots: &mut [u32], head: usize, at: usize, part: &[u32], count: usize)
     requires { Reach (length slots.old) head at (at + count) × (count ≤ length part.now) }
     ensures { Laid (slot_of (length slots.old) head) at count part.now slots.old slots.new }
 {
-    let cap = slots.len();
-    let start = slot(cap, head, at);
-    let gap = cap - start;
-    if count <= gap {
-        run_copy(slots, start, part, count);
-        return;
-    }
-    run_copy(slots, start, part, gap);
-    run_copy(slots, 0, &part[gap..], count - gap);
+    let runs = parted(slots.len(), head, at, at + count);
+    let near = runs.end - runs.start;
+    run_copy(slots, runs.start, part, near);
+    run_copy(slots, 0, &part[near..], runs.rest);
 }
 
 // A ring's positions from at on take the first count entries of another ring, whose slots they leave as they are.

@@ -1,38 +1,36 @@
 -- The rows of a drawing, put together from their cells: what is written, with the cells that are left, is always the whole row.
-use mathlib.Core.Path.{◌≡◌, sym, ap, ◌∙◌}
+use mathlib.Core.Path.{◌≡◌, refl, sym, ap, ◌∙◌}
 use mathlib.Core.Bool.{Bool, true, false}
-use mathlib.Core.List.{List, [], ◌∷◌}
-use Prim.Native.Nat.{ℕ, suc, ◌+◌, ◌-◌, ◌≤◌, ◌<◌, max}
+use mathlib.Core.List.{List, [], ◌∷◌, ◌++◌}
+use Prim.Native.Nat.{ℕ, zero, suc, ◌+◌, ◌-◌, ◌≤◌, ◌<◌, max}
 use native.Mathlib.Numerals.{add-one}
 use native.Mathlib.Omega.{arith}
-use borrow.Author.Tests.{eq-eqb, ne_eqb, lt-ltb, le-ltb}
 use lib.Dec.{ltb}
-use lib.ListN.{length, get_or, set, take, drop, drop_of_length-le}
+use lib.ListN.{length, get_or, take, drop, replicate, length-replicate, length-take, length-drop, drop_of_length-le}
 use lib.Seq.{drop-cons}
+use borrow.Rule.Slice.PartMut.{put_mid}
+use Rattle.std.proofs.lemmas.List.{get_or-take, get_or-drop}
 use Rattle.slots.specs.Layout.{slot_of, pos_of}
 use Rattle.slots.proofs.Placing.{length_entries, entry}
 use Rattle.io.specs.Digits.{last_digits, IsDigitCount}
 use Rattle.words.specs.Words.{bytes, decimal}
 use Rattle.words.specs.Wrote.{Wrote}
 use Rattle.words.proofs.Decimals.{digits_decimal}
-use Rattle.words.proofs.Writing.{wrote_none, wrote_one, wrote_then, Left, left_all, left_none, left_then}
+use Rattle.words.proofs.Writing.{wrote_none, wrote_then, Left, left_all, left_none, left_then, wrote_text}
 use Rattle.show.specs.Rows.{spaces, right_in, largest, width, slot_cells, slot_row, held_cell, held_cells, held_row, pos_cell, pos_cells, pos_row, group, entry_cell, entry_cells, list_word, list_row, list_in}
 
 -- SPACES
-pub spaces_start : (a : List ℕ) (at n : ℕ) → Left a at (spaces n) (at + 0) (spaces (n - 0)) a
-spaces_start a at n = let e : at + 0 ≡ at = omega arith in let e2 : n - 0 ≡ n = omega arith in rw (e, e2) left_all
+spaces_are : (n m : ℕ) → n ≡ m → replicate m 32 ≡ spaces n
+unfolding spaces
+spaces_are zero m e = rw (← e) refl
+spaces_are (suc n) m e = rw (← e) (ap (λ s. 32 ∷ s) (spaces_are n n refl))
 
-module _ {a b : List ℕ} {at : ℕ} {all : List ℕ} (n i : ℕ) (p : Left a at all (at + i) (spaces (n - i)) b) where
-  pub spaces_turn : i < n → Left a at all (at + (i + 1)) (spaces (n - (i + 1))) (set b (at + i) 32)
-  unfolding spaces
-  spaces_turn h =
-      let one : n - i ≡ suc (n - (i + 1)) = omega arith in
-      let e : at + (i + 1) ≡ at + i + 1 = omega arith in
-      rw e (left_then {s = 32 ∷ []} (rw one at p) (wrote_one b (at + i) 32))
-
-  pub spaces_end : n ≤ i → Wrote a at all (at + i) b
-  unfolding spaces
-  spaces_end h = let none : n - i ≡ 0 = omega arith in left_none (rw none at p)
+pub spaces_wrote : (a part : List ℕ) (at n : ℕ) → at + n ≤ length a → part ≡ replicate (length (take (at + n - at) (drop at a))) 32
+    → Wrote a at (spaces n) (at + n) (put_mid at (at + n - at) a part)
+spaces_wrote a part at n h p =
+    let all : n ≡ length (take (at + n - at) (drop at a)) = omega (arith, length-take (at + n - at) (drop at a), length-drop at a) in
+    let long : length (spaces n) ≡ n = rw (← spaces_are n n refl) (length-replicate n 32) in
+    rw long at (wrote_text a (spaces n) part at (rw long h) (p ∙ spaces_are n _ all))
 
 -- TO THE RIGHT
 pub right_wrote : {a b c : List ℕ} {at m m2 : ℕ} (part : List ℕ) (w g : ℕ) → Wrote a at (spaces g) m b → Wrote b m part m2 c → g ≡ w - length part → Wrote a at (right_in w part) m2 c
@@ -44,9 +42,6 @@ pub number_wrote : {a b : List ℕ} {at m : ℕ} (t : List ℕ) (w n k : ℕ) �
 number_wrote t w n k p e f = rw (← digits_decimal k n f, ← e) p
 
 -- HOW WIDE
-pub largest_start : (s : List ℕ) (m : ℕ) → m ≡ length s - 1 → largest m (drop 0 s) ≡ largest (length s - 1) s
-largest_start s m e = rw e
-
 pub largest_turn : (s : List ℕ) (i m m2 v : ℕ) → largest m (drop i s) ≡ v → i < length s → m2 ≡ max m (get_or s i 0) → largest m2 (drop (i + 1) s) ≡ v
 unfolding largest
 largest_turn s i m m2 v is h e = let cons : drop i s ≡ get_or s i 0 ∷ drop (i + 1) s = rw (add-one, drop-cons s i 0) in rw e (rw cons at is)
@@ -55,13 +50,9 @@ pub largest_end : (s : List ℕ) (i m v : ℕ) → largest m (drop i s) ≡ v �
 unfolding largest
 largest_end s i m v is h = rw (drop_of_length-le s {i = i} h) at is
 
-pub width_two : (s t t2 : List ℕ) (x k : ℕ) → x ≡ largest (length s - 1) s → Wrote t 0 (decimal x) k t2 → k < 2 → 2 ≡ width s
+pub width_is : (s t t2 : List ℕ) (x k r : ℕ) → x ≡ largest (length s - 1) s → Wrote t 0 (decimal x) k t2 → r ≡ max k 2 → r ≡ width s
 unfolding width
-width_two s t t2 x k e p h = rw (← e) (omega (arith, p.behind))
-
-pub width_more : (s t t2 : List ℕ) (x k : ℕ) → x ≡ largest (length s - 1) s → Wrote t 0 (decimal x) k t2 → 2 ≤ k → k ≡ width s
-unfolding width
-width_more s t t2 x k e p h = rw (← e) (omega (arith, p.behind))
+width_is s t t2 x k r e p h = rw (← e) (omega (arith, p.behind))
 
 -- THE CELLS OF A ROW: one more, and all
 module _ {a b : List ℕ} {at end : ℕ} {all : List ℕ} (w i last : ℕ) where
@@ -74,16 +65,6 @@ module _ {a b : List ℕ} {at end : ℕ} {all : List ℕ} (w i last : ℕ) where
   unfolding slot_cells
   slot_end p h = let none : last - i ≡ 0 = omega arith in left_none (rw none at p)
 
-  module _ (slots : List ℕ) where
-    pub held_turn : {c : List ℕ} {e : ℕ} → Left a at all end (held_cells w slots i (last - i)) b → i < last → Wrote b end (held_cell w (get_or slots i 0)) e c
-        → Left a at all e (held_cells w slots (i + 1) (last - (i + 1))) c
-    unfolding held_cells
-    held_turn p h q = let one : last - i ≡ suc (last - (i + 1)) = omega arith in left_then {s = held_cell w (get_or slots i 0)} (rw one at p) q
-
-    pub held_end : Left a at all end (held_cells w slots i (last - i)) b → last ≤ i → Wrote a at all end b
-    unfolding held_cells
-    held_end p h = let none : last - i ≡ 0 = omega arith in left_none (rw none at p)
-
   -- the slot as far on from slot i as the head is before the end has the number that is slot i's position
   module _ (cap head len : ℕ) where
     pub pos_turn : {c : List ℕ} {e : ℕ} (s : ℕ) → Left a at all end (pos_cells w cap head len i (last - i)) b → i < last → s ≡ slot_of cap i (cap - head)
@@ -94,6 +75,27 @@ module _ {a b : List ℕ} {at end : ℕ} {all : List ℕ} (w i last : ℕ) where
     pub pos_end : Left a at all end (pos_cells w cap head len i (last - i)) b → last ≤ i → Wrote a at all end b
     unfolding pos_cells
     pos_end p h = let none : last - i ≡ 0 = omega arith in left_none (rw none at p)
+
+-- what the slots from first to last hold, k of them done
+pub held_start : (w : ℕ) (slots : List ℕ) (first last : ℕ) {a : List ℕ} {at : ℕ} → Left a at (held_cells w slots first (last - first)) at (held_cells w slots (first + 0) (last - (first + 0))) a
+held_start w slots first last = let e : first + 0 ≡ first = omega arith in rw e left_all
+
+module _ {a b : List ℕ} {at end : ℕ} {all : List ℕ} (w : ℕ) (slots : List ℕ) (first last k : ℕ) where
+  pub held_turn : {c : List ℕ} {e x : ℕ} → Left a at all end (held_cells w slots (first + k) (last - (first + k))) b → k < length (take (last - first) (drop first slots))
+      → x ≡ get_or (take (last - first) (drop first slots)) k 0 → Wrote b end (held_cell w x) e c → Left a at all e (held_cells w slots (first + (k + 1)) (last - (first + (k + 1)))) c
+  unfolding held_cells
+  held_turn {x = x} p h ex q =
+      let few : k < last - first = omega (arith, length-take (last - first) (drop first slots)) in
+      let one : last - (first + k) ≡ suc (last - (first + (k + 1))) = omega arith in
+      let next : first + (k + 1) ≡ first + k + 1 = omega arith in
+      let is : x ≡ get_or slots (first + k) 0 = ex ∙ get_or-take (last - first) (drop first slots) k 0 few ∙ get_or-drop first slots k 0 in
+      rw next (left_then {s = held_cell w (get_or slots (first + k) 0)} (rw (one, next) at p) (rw is at q))
+
+  pub held_end : Left a at all end (held_cells w slots (first + k) (last - (first + k))) b → length (take (last - first) (drop first slots)) ≤ k → last ≤ length slots → Wrote a at all end b
+  unfolding held_cells
+  held_end p h fits =
+      let none : last - (first + k) ≡ 0 = omega (arith, length-take (last - first) (drop first slots), length-drop first slots) in
+      left_none (rw none at p)
 
 module _ {a b : List ℕ} {at end : ℕ} {all : List ℕ} (slots : List ℕ) (head len j last : ℕ) where
   pub entries_turn : {c : List ℕ} {e : ℕ} (s : ℕ) → Left a at all end (entry_cells (list_in slots head len) j (last - j)) b → j < last → last ≤ len
@@ -110,24 +112,6 @@ module _ {a b : List ℕ} {at end : ℕ} {all : List ℕ} (slots : List ℕ) (he
   pub entries_end : Left a at all end (entry_cells (list_in slots head len) j (last - j)) b → last ≤ j → Wrote a at all end b
   unfolding entry_cells
   entries_end p h = let none : last - j ≡ 0 = omega arith in left_none (rw none at p)
-
--- A CELL of two kinds
-pub pos_some : {a b : List ℕ} {at m : ℕ} (w len p : ℕ) → Wrote a at (right_in (w + 5) (decimal p)) m b → p < len → Wrote a at (pos_cell w len p) m b
-unfolding pos_cell
-pos_some w len p q h = rw (lt-ltb p len h) q
-
-pub pos_none : {a b : List ℕ} {at m : ℕ} (w len p : ℕ) → Wrote a at (right_in (w + 5) (bytes "-")) m b → len ≤ p → Wrote a at (pos_cell w len p) m b
-unfolding pos_cell
-pos_none w len p q h = rw (le-ltb p len h) q
-
-module _ {a b : List ℕ} {at m : ℕ} (first : ℕ) where
-  pub word_first : Wrote a at (bytes "list") m b → first ≡ 0 → Wrote a at (list_word first) m b
-  unfolding list_word
-  word_first p e = rw (eq-eqb first 0 e) p
-
-  pub word_other : Wrote a at (bytes "    ") m b → (first ≡ 0 → ⊥) → Wrote a at (list_word first) m b
-  unfolding list_word
-  word_other p e = rw (ne_eqb first 0 e) p
 
 -- ROWS
 module _ {a b c d : List ℕ} {at m m2 m3 : ℕ} where

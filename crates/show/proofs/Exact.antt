@@ -17,8 +17,12 @@ use Rattle.stored.specs.Acceptable.{Acceptable, Exact}
 use Rattle.stored.specs.Judge.{are_lines, cap_in, head_of, len_in, is_older, stands, opens, judge, judge_by}
 use Rattle.stored.proofs.Judging.{opens_line}
 use Rattle.stored.proofs.Exactly.{accepts, opened, start, state, lines, judge_exact}
+use Rattle.std.specs.Prelude.{Option, Some, None, Ok, Err, is_ok}
+use Rattle.show.specs.declared.faults.Expected.{Expected}
+use Rattle.show.specs.declared.faults.Expected.TheVariants.{AHead, NoHead, NoSlots}
 use Rattle.show.specs.declared.faults.Fault.{Fault}
-use Rattle.show.specs.Faults.{fault_at, sound, leading, line_fault, head_what, state_fault, first_fault, slots_fault, or_else, fault}
+use Rattle.show.specs.Faults.{Judged, sound, line_fault, head_what, head_or, state_fault, first_fault, slots_fault, or_else, fault}
+use Rattle.show.proofs.Finding.{line_was}
 
 -- two tests that imply each other
 both_ways : (a b : Bool) → (a ≡ true → b ≡ true) → (b ≡ true → a ≡ true) → a ≡ b
@@ -27,57 +31,54 @@ both_ways false true there back = back refl
 both_ways false false there back = refl
 
 -- past a test for a fault
-past : (b : Bool) (f g : Fault) → (f.what ≡ 0 → ⊥) → (cond b f g).what ≡ 0 → (b ≡ false) × (g.what ≡ 0)
-past true f g bad e = absurd (bad e)
-past false f g bad e = (refl, e)
+past : (b : Bool) (f : Fault) (r : Judged) → cond b (Err f) r ≡ sound → (b ≡ false) × (r ≡ sound)
+past true f r e = cc
+past false f r e = (refl, e)
 
-first_none : (f g : Fault) → (or_else f g).what ≡ 0 → f.what ≡ 0
-first_none f g e = go (eqb f.what 0) refl
-  where
-    go : (b : Bool) → eqb f.what 0 ≡ b → f.what ≡ 0
-    go true is = eqb-true _ _ is
-    go false is = rw is at e
+first_none : (f g : Judged) → or_else f g ≡ sound → f ≡ sound
+first_none (Ok _) g e = refl
+first_none (Err f) g e = cc
 
-second_none : (f g : Fault) → (or_else f g).what ≡ 0 → g.what ≡ 0
-second_none f g e = rw (eq-eqb f.what 0 (first_none f g e)) at e
+second_none : (f g : Judged) → or_else f g ≡ sound → g ≡ sound
+second_none (Ok _) g e = e
+second_none (Err f) g e = cc
 
-both_none : (f g : Fault) → f.what ≡ 0 → g.what ≡ 0 → (or_else f g).what ≡ 0
-both_none f g ef eg = rw (eq-eqb f.what 0 ef) eg
+both_none : (f g : Judged) → f ≡ sound → g ≡ sound → or_else f g ≡ sound
+both_none f g ef eg = rw ef eg
+
+ok_sound : (r : Judged) → is_ok r ≡ true → r ≡ sound
+ok_sound (Ok _) e = refl
+ok_sound (Err f) e = cc
+
+not_ok : (r : Judged) → (r ≡ sound → ⊥) → is_ok r ≡ false
+not_ok (Ok _) bad = absurd (bad refl)
+not_ok (Err f) bad = refl
 
 -- A LINE
-line_yes : (line n : ℕ) (s : List ℕ) → (line_fault line n s).what ≡ 0 → is_line n s ≡ true
-unfolding line_fault
-line_yes line n s e = go (is_line n s) refl
-  where
-    bad : (b : Bool) (f g : Fault) → f.what ≡ 1 → g.what ≡ 2 → (cond b f g).what ≡ 0 → ⊥
-    bad true f g ef eg e = omega arith
-    bad false f g ef eg e = omega arith
+line_yes : (line n : ℕ) (s : List ℕ) → line_fault line n s ≡ sound → is_line n s ≡ true
+line_yes line n s e = line_was line n s (line_fault line n s) refl e
 
-    go : (b : Bool) → is_line n s ≡ b → is_line n s ≡ true
-    go true is = is
-    go false is = absurd (bad (ltb (leading n s) n) (fault_at line (leading n s + 1) 1) (fault_at line (n + 1) 2) refl refl (rw is at e))
-
-line_none : (line n : ℕ) (s : List ℕ) → is_line n s ≡ true → (line_fault line n s).what ≡ 0
+line_none : (line n : ℕ) (s : List ℕ) → is_line n s ≡ true → line_fault line n s ≡ sound
 unfolding line_fault
-line_none line n s is = rw is
+line_none line n s is = rw is refl
 
 -- THE SLOTS' LINES, and nothing behind them
-slots_yes : (line n : ℕ) (s : List ℕ) → (slots_fault line n s).what ≡ 0 → (are_lines n s ≡ true) × (length s ≡ 9 * n)
+slots_yes : (line n : ℕ) (s : List ℕ) → slots_fault line n s ≡ sound → (are_lines n s ≡ true) × (length s ≡ 9 * n)
 unfolding slots_fault are_lines
-slots_yes line zero s e = let none = (past (ltb 0 (length s)) (fault_at line 1 10) sound (λ z. omega arith) e).0 in (refl, omega (arith, ltb-false 0 (length s) none))
+slots_yes line zero s e = let none = (past (ltb 0 (length s)) _ sound e).0 in (refl, omega (arith, ltb-false 0 (length s) none))
 slots_yes line (suc n) s e = go (is_line 8 s) refl (slots_yes (line + 1) n (drop 9 s))
   where
-    go : (b : Bool) → is_line 8 s ≡ b → ((slots_fault (line + 1) n (drop 9 s)).what ≡ 0 → (are_lines n (drop 9 s) ≡ true) × (length (drop 9 s) ≡ 9 * n))
+    go : (b : Bool) → is_line 8 s ≡ b → (slots_fault (line + 1) n (drop 9 s) ≡ sound → (are_lines n (drop 9 s) ≡ true) × (length (drop 9 s) ≡ 9 * n))
         → (is_line 8 s && are_lines n (drop 9 s) ≡ true) × (length s ≡ 9 * suc n)
     go true is others =
         let rest = others (rw is at e) in
         let l = line_parts 8 s is in
         (rw is rest.0, omega (arith, l.long, simp length-drop at rest.1))
-    go false is others = absurd (let one = line_yes line 8 s (rw is at e) in let z : true ≡ false = sym one ∙ is in let n : ◌≡◌ {A = ℕ} 0 1 = cc in omega arith)
+    go false is others = absurd (let one = line_yes line 8 s (rw is at e) in let z : true ≡ false = sym one ∙ is in cc)
 
-slots_none : (line n : ℕ) (s : List ℕ) → are_lines n s ≡ true → length s ≡ 9 * n → (slots_fault line n s).what ≡ 0
+slots_none : (line n : ℕ) (s : List ℕ) → are_lines n s ≡ true → length s ≡ 9 * n → slots_fault line n s ≡ sound
 unfolding slots_fault are_lines
-slots_none line zero s all long = let none : length s ≤ 0 = omega arith in rw (le-ltb 0 (length s) none)
+slots_none line zero s all long = let none : length s ≤ 0 = omega arith in rw (le-ltb 0 (length s) none) refl
 slots_none line (suc n) s all long =
     let is = and_left (is_line 8 s) _ all in
     rw is (slots_none (line + 1) n (drop 9 s) (and_right (is_line 8 s) _ all) (simp length-drop (omega arith)))
@@ -91,20 +92,20 @@ pub record Fine (kind form c h n : ℕ) : Type 0 where
   pub below : 0 < h → h < c
   pub fits : n ≤ c
 
-pass : (b : Bool) (x y : ℕ) → (x ≡ 0 → ⊥) → cond b x y ≡ 0 → (b ≡ false) × (y ≡ 0)
-pass true x y bad e = absurd (bad e)
-pass false x y bad e = (refl, e)
+pass : (b : Bool) (x : Expected) (y : Option Expected) → cond b (Some x) y ≡ None → (b ≡ false) × (y ≡ None)
+pass true x y e = cc
+pass false x y e = (refl, e)
 
-head_yes : (kind c h : ℕ) → head_what kind c h ≡ 0 → 0 < h → (kind ≡ 1 → ⊥) × (h < c)
+head_yes : (kind c h : ℕ) → head_what kind c h ≡ None → 0 < h → (kind ≡ 1 → ⊥) × (h < c)
 unfolding head_what
 head_yes kind c h e some =
     let other : (h ≡ 0 → ⊥) = λ z. omega arith in
-    let a = pass (eqb kind 1) 7 _ (λ z. omega arith) (rw (ne_eqb h 0 other) at e) in
-    let b = pass (eqb c 0) 8 _ (λ z. omega arith) a.1 in
-    let d = pass (leb c h) 6 0 (λ z. omega arith) b.1 in
+    let a = pass (eqb kind 1) NoHead _ (rw (ne_eqb h 0 other) at e) in
+    let b = pass (eqb c 0) NoSlots _ a.1 in
+    let d = pass (leb c h) AHead None b.1 in
     (eqb-false _ _ a.0, leb-false _ _ d.0)
 
-head_none : (kind c h : ℕ) → (kind ≡ 1 → h ≡ 0) → (0 < h → h < c) → head_what kind c h ≡ 0
+head_none : (kind c h : ℕ) → (kind ≡ 1 → h ≡ 0) → (0 < h → h < c) → head_what kind c h ≡ None
 unfolding head_what
 head_none kind c zero v b = refl
 head_none kind c (suc h) v b =
@@ -112,17 +113,21 @@ head_none kind c (suc h) v b =
     let k : (kind ≡ 1 → ⊥) = λ e. let z : suc h ≡ 0 = v e in omega arith in
     let some : (c ≡ 0 → ⊥) = λ e. omega arith in
     let head : (suc h ≡ 0 → ⊥) = λ e. omega arith in
-    rw (ne_eqb (suc h) 0 head, ne_eqb kind 1 k, ne_eqb c 0 some, lt-leb c (suc h) lt)
+    rw (ne_eqb (suc h) 0 head, ne_eqb kind 1 k, ne_eqb c 0 some, lt-leb c (suc h) lt) refl
 
-state_yes : (kind form c h n : ℕ) → (state_fault kind form c h n).what ≡ 0 → Fine kind form c h n
+-- past a head at fault
+past_head : (w : Option Expected) (r : Judged) → head_or w r ≡ sound → (w ≡ None) × (r ≡ sound)
+past_head None r e = (refl, e)
+past_head (Some what) r e = cc
+
+state_yes : (kind form c h n : ℕ) → state_fault kind form c h n ≡ sound → Fine kind form c h n
 unfolding state_fault
 state_yes kind form c h n e =
-    let a = past (ltb 1 kind) (fault_at 1 1 3) _ (λ z. omega arith) e in
-    let b = past (ltb 0 form) (fault_at 1 3 4) _ (λ z. omega arith) a.1 in
-    let d = past (ltb most c) (fault_at 1 5 5) _ (λ z. omega arith) b.1 in
-    let w : ℕ = head_what kind c h in
-    let g = head_zero w d.1 in
-    let i = past (ltb c n) (fault_at 1 13 9) sound (λ z. omega arith) g.1 in
+    let a = past (ltb 1 kind) _ _ e in
+    let b = past (ltb 0 form) _ _ a.1 in
+    let d = past (ltb most c) _ _ b.1 in
+    let g = past_head (head_what kind c h) _ d.1 in
+    let i = past (ltb c n) _ sound g.1 in
     record {
       kinded = omega (arith, ltb-false 1 kind a.0);
       formed = omega (arith, ltb-false 0 form b.0);
@@ -132,25 +137,18 @@ state_yes kind form c h n e =
       fits = omega (arith, ltb-false c n i.0);
     }
   where
-    head_zero : (w : ℕ) → (cond (ltb 0 w) (fault_at 1 9 w) (cond (ltb c n) (fault_at 1 13 9) sound)).what ≡ 0 → (w ≡ 0) × ((cond (ltb c n) (fault_at 1 13 9) sound).what ≡ 0)
-    head_zero w e = go (ltb 0 w) refl
-      where
-        go : (b : Bool) → ltb 0 w ≡ b → (w ≡ 0) × ((cond (ltb c n) (fault_at 1 13 9) sound).what ≡ 0)
-        go true is = absurd (let z : w ≡ 0 = rw is at e in omega (arith, ltb-true 0 w is))
-        go false is = (omega (arith, ltb-false 0 w is), rw is at e)
-
-    headless : kind ≡ 1 → head_what kind c h ≡ 0 → h ≡ 0
+    headless : kind ≡ 1 → head_what kind c h ≡ None → h ≡ 0
     headless v e = go (ltb 0 h) refl
       where
         go : (b : Bool) → ltb 0 h ≡ b → h ≡ 0
         go true is = absurd ((head_yes kind c h e (ltb-true _ _ is)).0 v)
         go false is = omega (arith, ltb-false 0 h is)
 
-state_none : (kind form c h n : ℕ) → Fine kind form c h n → (state_fault kind form c h n).what ≡ 0
+state_none : (kind form c h n : ℕ) → Fine kind form c h n → state_fault kind form c h n ≡ sound
 unfolding state_fault
 state_none kind form c h n f =
     let z : form ≤ 0 = omega (arith, f.formed) in
-    rw (le-ltb 1 kind f.kinded, le-ltb 0 form z, le-ltb most c f.small, head_none kind c h f.unheaded f.below, le-ltb c n f.fits)
+    rw (le-ltb 1 kind f.kinded, le-ltb 0 form z, le-ltb most c f.small, head_none kind c h f.unheaded f.below, le-ltb c n f.fits) refl
 
 or_true : (b : Bool) → b || true ≡ true
 or_true true = refl
@@ -208,7 +206,7 @@ module _ (text : List ℕ) where
     pub slots : are_lines (cap_in text) (drop 17 text) ≡ true
     pub long : length (drop 17 text) ≡ 9 * cap_in text
 
-  pub parts : (fault text).what ≡ 0 → Parts
+  pub parts : fault text ≡ sound → Parts
   unfolding fault first_fault
   parts e =
       let F = first_fault text in
@@ -218,14 +216,14 @@ module _ (text : List ℕ) where
       record { line = line_yes 1 16 text (first_none (line_fault 1 16 text) (or_else F S) e); fine = state_yes _ _ _ _ _ (first_none F S rest); slots = all.0; long = all.1 }
 
   -- no fault, and the kind is k: the text is judged acceptable as a k
-  pub none_judged : (k : Kind) → kind ≡ kind_byte k → (fault text).what ≡ 0 → judge k text ≡ true
+  pub none_judged : (k : Kind) → kind ≡ kind_byte k → fault text ≡ sound → judge k text ≡ true
   unfolding judge opens
   none_judged k ek e =
       let p = parts e in
       let long : length text ≡ size (cap_in text) = omega (arith, (line_parts 16 text p.line).long, simp length-drop at p.long) in
       rw (p.line, eq-eqb _ _ ek, eq-eqb _ _ p.fine.formed, eq-eqb _ _ long, fine_stands k (field 2 2 text) (cap_in text) (head_of text) (len_in text) (rw ek at p.fine), p.slots)
 
-  pub judged_none : (k : Kind) → judge k text ≡ true → (fault text).what ≡ 0
+  pub judged_none : (k : Kind) → judge k text ≡ true → fault text ≡ sound
   unfolding fault first_fault
   judged_none k ok =
       let o = opened (kind_byte k) text (start k text ok) in
@@ -235,7 +233,7 @@ module _ (text : List ℕ) where
       (both_none (first_fault text) _ (state_none _ _ _ _ _ (rw (← o.kinded) at fine)) (slots_none 2 (cap_in text) (drop 17 text) (lines k text ok) body))
 
   -- a kind without a fault is a ring's or a vector's
-  pub some_kind : (fault text).what ≡ 0 → (kind ≡ 0 → ⊥) → kind ≡ 1
+  pub some_kind : fault text ≡ sound → (kind ≡ 0 → ⊥) → kind ≡ 1
   some_kind e other = go kind (parts e).fine.kinded other
     where
       go : (k : ℕ) → k ≤ 1 → (k ≡ 0 → ⊥) → k ≡ 1
@@ -243,21 +241,21 @@ module _ (text : List ℕ) where
       go (suc k) few other = omega arith
 
   -- no fault exactly when the text is judged acceptable, as a k or by the kind that its first two digits say
-  pub same : (k : Kind) → kind ≡ kind_byte k → eqb (fault text).what 0 ≡ judge k text
-  same k ek = both_ways _ _ (λ t. none_judged k ek (eqb-true _ _ t)) (λ t. eq-eqb _ _ (judged_none k t))
+  pub same : (k : Kind) → kind ≡ kind_byte k → is_ok (fault text) ≡ judge k text
+  same k ek = both_ways _ _ (λ t. none_judged k ek (ok_sound _ t)) (λ t. ap is_ok (judged_none k t))
 
-  pub fault_judged : eqb (fault text).what 0 ≡ judge_by kind text
+  pub fault_judged : is_ok (fault text) ≡ judge_by kind text
   unfolding judge_by
   fault_judged = go (eqb kind 0) refl (eqb kind 1) refl
     where
-      go : (a : Bool) → eqb kind 0 ≡ a → (b : Bool) → eqb kind 1 ≡ b → eqb (fault text).what 0 ≡ cond (eqb kind 0) (judge ring text) (cond (eqb kind 1) (judge vector text) false)
+      go : (a : Bool) → eqb kind 0 ≡ a → (b : Bool) → eqb kind 1 ≡ b → is_ok (fault text) ≡ cond (eqb kind 0) (judge ring text) (cond (eqb kind 1) (judge vector text) false)
       go true ea b eb = rw ea (same ring (eqb-true _ _ ea))
       go false ea true eb = rw (ea, eb) (same vector (eqb-true _ _ eb))
-      go false ea false eb = rw (ea, eb) (ne_eqb _ _ (λ ok. eqb-false kind 1 eb (some_kind ok (eqb-false kind 0 ea))))
+      go false ea false eb = rw (ea, eb) (not_ok (fault text) (λ ok. eqb-false kind 1 eb (some_kind ok (eqb-false kind 0 ea))))
 
   -- NO FAULT, EXACTLY WHEN ACCEPTABLE for the kind that the first two digits say; and none in a text that is acceptable for either
-  pub fault_exact : (k : Kind) → kind ≡ kind_byte k → Exact (eqb (fault text).what 0) k text
+  pub fault_exact : (k : Kind) → kind ≡ kind_byte k → Exact (is_ok (fault text)) k text
   fault_exact k ek = rw (same k ek) (judge_exact k text)
 
-  pub acceptable_none : (k : Kind) → Acceptable k text → (fault text).what ≡ 0
+  pub acceptable_none : (k : Kind) → Acceptable k text → fault text ≡ sound
   acceptable_none k a = judged_none k (accepts k text a.tray a.stands)

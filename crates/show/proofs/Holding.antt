@@ -1,5 +1,5 @@
 -- What a text without a fault is read as: a valid state, in as many slots as it says. The reader accepts it, and what it gives is what the text tells.
-use mathlib.Core.Path.{◌≡◌, refl, sym, ap, ◌∙◌}
+use mathlib.Core.Path.{◌≡◌, refl, sym, ap, subst, ◌∙◌}
 use mathlib.Core.Bool.{true}
 use mathlib.Core.List.{List}
 use Prim.Native.Nat.{ℕ, ◌-◌, ◌≤◌, ◌<◌}
@@ -7,28 +7,32 @@ use native.Mathlib.Omega.{arith}
 use borrow.Author.Tests.{eq-eqb, le-ltb}
 use lib.ListN.{length, get_or, take, length-take}
 use lib.Seq.{ext_get_or}
+use Rattle.std.specs.Prelude.{Result, Ok, Err, IsOk}
 use Rattle.slots.specs.Layout.{most, Kind, ring, vector, itself, slot_of}
 use Rattle.slots.specs.Total.{total}
 use Rattle.slots.proofs.Placing.{length_entries, entry}
 use Rattle.slots.proofs.Lays.{slot_near}
 use Rattle.table.specs.Tray.{Tray, cap, list}
 use Rattle.table.specs.Does.{Outcome, gives}
+use Rattle.table.specs.Answers.{numbered}
+use Rattle.table.specs.declared.answers.Answer.{Answer}
+use Rattle.table.specs.declared.answers.Refusal.{Refusal}
 use Rattle.table.proofs.Laws.Valid.{Valid}
+use Rattle.table.proofs.Laws.Numbered.{some_number}
 use Rattle.lines.specs.Line.{is_line, field}
-use Rattle.ring.specs.declared.Answer as ring_answer
+use Rattle.ring.specs.declared.Ring.{Ring}
 use Rattle.ring.specs.Seen as rings
-use Rattle.vector.specs.declared.Answer as vector_answer
+use Rattle.vector.specs.declared.Vector.{Vector}
 use Rattle.vector.specs.Seen as vectors
 use Rattle.stored.specs.Form.{kind_byte}
 use Rattle.stored.specs.Judge.{told, cap_in}
 use Rattle.stored.specs.Reads.{reads, total_read, RingRead, VectorRead}
 use Rattle.stored.proofs.Judging.{opens_line}
 use Rattle.stored.proofs.Exactly.{start, many, standing_valid, stands_told}
-use Rattle.show.specs.declared.faults.Fault.{Fault}
 use Rattle.show.specs.Rows.{list_in}
 use Rattle.show.specs.Drawable.{Drawable, Shown}
-use Rattle.show.specs.Faults.{fault}
-use Rattle.show.proofs.Exact.{parts, none_judged, some_kind}
+use Rattle.show.specs.Faults.{fault, sound}
+use Rattle.show.proofs.Exact.{parts, none_judged}
 
 module _ (k : Kind) (text before : List ℕ) (d : Drawable k text before) where
   told_valid : Valid (cap (told k text)) (told k text).head (told k text).len
@@ -61,13 +65,23 @@ module _ (k : Kind) (text before : List ℕ) (d : Drawable k text before) where
         fits = omega (arith, v.fits);
       }
 
-pub ring_shown : (text before after : List ℕ) (a : ring_answer.Answer) → Drawable ring text before → RingRead text before a after
-    → Shown ring text after a.ring.head a.ring.len a.ring.total.sum
-ring_shown text before after a d r = shown_by ring text before d after _ _ _ (rings.seen a after) r.row refl r.total
+  -- so it is done
+  pub is_done : {S : Type 0} (given : S) (r : Result (Answer S) Refusal) (o : Outcome) → o.number ≡ (numbered given r).number → o ≡ reads k text before → IsOk r
+  is_done given (Ok a) o en row = refl
+  is_done given (Err e) o en row = absurd (omega (arith, some_number e, en, ap (λ (o : Outcome). o.number) (row ∙ reads_told)))
 
-pub vector_shown : (text before after : List ℕ) (a : vector_answer.Answer) → Drawable vector text before → VectorRead text before a after
-    → Shown vector text after 0 a.vector.len a.vector.total.sum
-vector_shown text before after a d r = shown_by vector text before d after _ _ _ (vectors.seen a after) r.row refl r.total
+-- and what it gives is drawn; a vector as a ring with head 0
+pub ring_shown : (text before after : List ℕ) (r : rings.Answered) (a : Answer Ring) → Drawable ring text before → RingRead text before r after → r ≡ Ok a
+    → Shown ring text after a.state.head a.state.len a.state.total.sum
+ring_shown text before after r a d p is =
+    let q : RingRead text before (Ok a) after = subst (λ r. RingRead text before r after) is p in
+    shown_by ring text before d after _ _ _ (rings.seen (numbered rings.bare_ring (Ok a)) after) q.row refl q.total
+
+pub vector_shown : (text before after : List ℕ) (r : Result (Answer Vector) Refusal) (a : Answer Vector) (v : Ring) → Drawable vector text before → VectorRead text before r after
+    → r ≡ Ok a → v ≡ rings.state 0 a.state.len a.state.total → Shown vector text after v.head v.len v.total.sum
+vector_shown text before after r a v d p is ev =
+    let q : VectorRead text before (Ok a) after = subst (λ r. VectorRead text before r after) is p in
+    rw ev (shown_by vector text before d after _ _ _ (vectors.seen (numbered vectors.none (Ok a)) after) q.row refl q.total)
 
 -- the list that is drawn is the one that the text tells; a vector's is a ring's with head 0
 pub ring_list : (text slots : List ℕ) (h n sum : ℕ) → Shown ring text slots h n sum → list_in slots h n ≡ list ring (told ring text)
@@ -83,23 +97,23 @@ vector_list text slots n sum s =
     ∙ ap (list vector) s.is
 
 -- a text in which no fault is found, of either kind
-pub none_found : (text : List ℕ) (f : Fault) → f ≡ fault text → f.what ≡ 0 → (fault text).what ≡ 0
-none_found text f e ok = sym (ap (λ (f : Fault). f.what) e) ∙ ok
-
-module _ (text : List ℕ) (ok : (fault text).what ≡ 0) where
+module _ (text : List ℕ) (ok : fault text ≡ sound) where
   pub none_line : is_line 16 text ≡ true
   none_line = (parts text ok).line
 
   pub none_small : (c : ℕ) → c ≡ field 4 4 text → c ≤ 4096
   none_small c e = omega (arith, (parts text ok).fine.small)
 
+  none_kind : field 0 2 text ≤ 1
+  none_kind = (parts text ok).fine.kinded
+
+  pub kind_known : (kind : ℕ) → kind ≡ field 0 2 text → 1 < kind → ⊥
+  kind_known kind e more = omega (arith, none_kind)
+
   -- the first c of all slots
   module _ (slots : List ℕ) (kind c : ℕ) (ek : kind ≡ field 0 2 text) (ec : c ≡ field 4 4 text) (long : length slots ≡ 4096) where
-    room : length (take (c - 0) slots) ≡ cap_in text
+    room : length (take c slots) ≡ cap_in text
     room = simp length-take (omega (arith, none_small c ec))
 
-    pub ring_drawable : kind ≡ 0 → Drawable ring text (take (c - 0) slots)
-    ring_drawable e = record { accepted = none_judged text ring (sym ek ∙ e) ok; room = room }
-
-    pub vector_drawable : (kind ≡ 0 → ⊥) → Drawable vector text (take (c - 0) slots)
-    vector_drawable other = record { accepted = none_judged text vector (some_kind text ok (λ z. other (ek ∙ z))) ok; room = room }
+    pub drawable : (k : Kind) → kind_byte k ≡ kind → Drawable k text (take c slots)
+    drawable k e = record { accepted = none_judged text k (sym ek ∙ sym e) ok; room = room }

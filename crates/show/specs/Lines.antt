@@ -1,8 +1,9 @@
 -- The other lines that `show` prints: the container's own, and that of a fault.
 use Rattle.std.specs.Prelude.{ℕ, cond, List, [], ◌++◌, eqb}
 use Rattle.words.specs.Words.{bytes, decimal, numbered, several}
+use Rattle.show.specs.declared.faults.Expected.{Expected}
+use Rattle.show.specs.declared.faults.Expected.TheVariants.{ADigit, LineEnd, AKind, ZeroByte, FewSlots, AHead, NoHead, NoSlots, ALength, TextEnd}
 use Rattle.show.specs.declared.faults.Fault.{Fault}
-use Rattle.show.specs.Faults.{a_digit, line_end, a_kind, zero_byte, few_slots, a_head, no_head, no_slots, a_length}
 
 -- the kind and so many slots; a ring's head; a length and a total
 unfoldable pub sized : (words : List ℕ) (c : ℕ) → List ℕ
@@ -29,17 +30,17 @@ unfoldable pub older_said : (was h : ℕ) → List ℕ
 older_said was h = cond (eqb was h) [] (older_line was)
 
 -- what was expected
-unfoldable pub expected : (what : ℕ) → List ℕ
-expected what =
-    cond (eqb what a_digit) (bytes "a digit 0-9 or a-f")
-    (cond (eqb what line_end) (bytes "the end of the line (LF)")
-    (cond (eqb what a_kind) (bytes "00 for a ring or 01 for a vector")
-    (cond (eqb what zero_byte) (bytes "00")
-    (cond (eqb what few_slots) (bytes "a capacity of at most 4096 (hexadecimal 1000)")
-    (cond (eqb what a_head) (bytes "a head below the capacity")
-    (cond (eqb what no_head) (bytes "0000, since a vector has no head")
-    (cond (eqb what no_slots) (bytes "0000, since there are no slots")
-    (cond (eqb what a_length) (bytes "a length of at most the capacity") (bytes "the end of the text")))))))))
+unfoldable pub expected : Expected → List ℕ
+expected ADigit = bytes "a digit 0-9 or a-f"
+expected LineEnd = bytes "the end of the line (LF)"
+expected AKind = bytes "00 for a ring or 01 for a vector"
+expected ZeroByte = bytes "00"
+expected FewSlots = bytes "a capacity of at most 4096 (hexadecimal 1000)"
+expected AHead = bytes "a head below the capacity"
+expected NoHead = bytes "0000, since a vector has no head"
+expected NoSlots = bytes "0000, since there are no slots"
+expected ALength = bytes "a length of at most the capacity"
+expected TextEnd = bytes "the end of the text"
 
 -- a fault, its place first
 unfoldable pub place_of : (line byte : ℕ) → List ℕ

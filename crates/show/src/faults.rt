@@ -1,80 +1,68 @@
 // The first fault of a stored text, in reading order.
-ghost use Rattle.std.specs.Prelude.{◌≡◌, true, ◌+◌, ◌≤◌, ◌^◌, ◌<◌, drop};
+ghost use Rattle.std.specs.Prelude.{◌≡◌, true, ◌+◌, ◌≤◌, ◌^◌, ◌<◌};
 ghost use Rattle.lines.specs.Line.{is_line, field};
+ghost use Rattle.stored.specs.Form.{kind_byte};
+ghost use Rattle.stored.specs.First.{kind_of};
 ghost use Rattle.show.specs.Faults.{fault_at, leading, line_fault, head_what, state_fault, first_fault, slots_fault, fault};
 
 use lines::line_from;
+use stored::kinds::Kind;
 
-// What can be expected; 0 where nothing is at fault.
-pub(crate) const A_DIGIT: u8 = 1;
+// What can be expected.
+#[derive(Clone, Copy, Debug, PartialEq, Eq)]
+pub(crate) enum Expected {
+    ADigit,
+    LineEnd,
+    AKind,
+    ZeroByte,
+    FewSlots,
+    AHead,
+    NoHead,
+    NoSlots,
+    ALength,
+    TextEnd,
+}
 
-pub(crate) const LINE_END: u8 = 2;
-
-pub(crate) const A_KIND: u8 = 3;
-
-pub(crate) const ZERO_BYTE: u8 = 4;
-
-pub(crate) const FEW_SLOTS: u8 = 5;
-
-pub(crate) const A_HEAD: u8 = 6;
-
-pub(crate) const NO_HEAD: u8 = 7;
-
-pub(crate) const NO_SLOTS: u8 = 8;
-
-pub(crate) const A_LENGTH: u8 = 9;
-
-pub(crate) const TEXT_END: u8 = 10;
-
-// Where it stands, line and byte from 1, and what was expected there, by number; all 0 where nothing is at fault.
-#[derive(Clone, Copy)]
+// Where it stands, line and byte from 1, and what was expected there.
+#[derive(Clone, Copy, Debug, PartialEq, Eq)]
 pub(crate) struct Fault {
     pub line: u64,
     pub byte: u64,
-    pub what: u8,
+    pub what: Expected,
 }
 
-fn fault_at(line: u64, byte: u64, what: u8) -> Fault
+fn fault_at(line: u64, byte: u64, what: Expected) -> Result<(), Fault>
     ensures { result ≡ fault_at line byte what }
 {
-    Fault { line, byte, what }
+    Err(Fault { line, byte, what })
 }
 
-// How many digits come first at a place, n at most.
-fn leading(text: &[u8], at: usize, n: usize) -> usize
-    ensures { result ≡ leading n (drop at text.now) }
+// How many digits come first, n at most.
+fn leading(rest: &[u8], n: usize) -> usize
+    ensures { result ≡ leading n rest.now }
 {
-    if text.len() <= at {
-        return 0;
-    }
-    let mut i = 0;
-    while i < n {
-        if text.len() - at <= i {
+    let most = n.min(rest.len());
+    for (i, b) in rest[..most].iter().enumerate() {
+        if digits::no_digit(*b) {
             return i;
         }
-        if digits::no_digit(text[at + i]) {
-            return i;
-        }
-        i += 1;
     }
-    i
+    most
 }
 
-// Of the line of n digits at a place.
-fn line_fault(text: &[u8], at: usize, n: usize, line: u64) -> Fault
+// Of the line of n digits that a text begins with.
+fn line_fault(rest: &[u8], n: usize, line: u64) -> Result<(), Fault>
     requires { n ≤ 16 }
-    ensures { result ≡ line_fault line n (drop at text.now) }
+    ensures { result ≡ line_fault line n rest.now }
 {
-    let step = line_from(text, at, n);
-    let found = step.line;
-    if lines::is_number(found) {
-        return fault_at(0, 0, 0);
+    if line_from(rest, 0, n).line.is_some() {
+        return Ok(());
     }
-    let k = leading(text, at, n);
+    let k = leading(rest, n);
     if k < n {
-        return fault_at(line, k as u64 + 1, A_DIGIT);
+        return fault_at(line, k as u64 + 1, Expected::ADigit);
     }
-    fault_at(line, n as u64 + 1, LINE_END)
+    fault_at(line, n as u64 + 1, Expected::LineEnd)
 }
 
 // What a number of the first line says.
@@ -85,75 +73,65 @@ pub(crate) fn field_at(text: &[u8], at: usize, n: usize) -> u64
     digits::number(&text[at..at + n])
 }
 
-// What is expected of a head; 0 for one that fits.
-fn head_what(kind: u64, cap: u64, head: u64) -> u8
-    ensures { result ≡ head_what kind cap head }
+// What is expected of a head; none of one that fits.
+#[tactic(auto, using(std::proofs::lemmas::Bool::Decides::nat_tests), unfolding(crate::specs::Faults::head_what))]
+fn head_what(kind: Kind, cap: u64, head: u64) -> Option<Expected>
+    ensures { result ≡ head_what (kind_byte (kind_of kind)) cap head }
 {
-    if head == 0 {
-        return 0;
+    match kind {
+        _ if head == 0 => None,
+        Kind::Vector => Some(Expected::NoHead),
+        Kind::Ring if cap == 0 => Some(Expected::NoSlots),
+        Kind::Ring if cap <= head => Some(Expected::AHead),
+        Kind::Ring => None,
     }
-    if kind == 1 {
-        return NO_HEAD;
-    }
-    if cap == 0 {
-        return NO_SLOTS;
-    }
-    if cap <= head {
-        return A_HEAD;
-    }
-    0
 }
 
 // Of the first line's numbers.
-fn state_fault(kind: u64, form: u64, cap: u64, head: u64, len: u64) -> Fault
+// They come one by one, as `first_fault` reads them: a struct would be made there and taken apart here.
+#[tactic(auto, using(std::proofs::lemmas::Bool::Decides::nat_tests), unfolding(crate::specs::Faults::state_fault))]
+fn state_fault(kind: u64, form: u64, cap: u64, head: u64, len: u64) -> Result<(), Fault>
     ensures { result ≡ state_fault kind form cap head len }
 {
-    if 1 < kind {
-        return fault_at(1, 1, A_KIND);
-    }
+    let kind = match Kind::try_from(kind) {
+        Ok(kind) => kind,
+        Err(_) => return fault_at(1, 1, Expected::AKind),
+    };
     if 0 < form {
-        return fault_at(1, 3, ZERO_BYTE);
+        return fault_at(1, 3, Expected::ZeroByte);
     }
     if (slots::MOST as u64) < cap {
-        return fault_at(1, 5, FEW_SLOTS);
+        return fault_at(1, 5, Expected::FewSlots);
     }
-    let what = head_what(kind, cap, head);
-    if 0 < what {
+    if let Some(what) = head_what(kind, cap, head) {
         return fault_at(1, 9, what);
     }
     if cap < len {
-        return fault_at(1, 13, A_LENGTH);
+        return fault_at(1, 13, Expected::ALength);
     }
-    fault_at(0, 0, 0)
+    Ok(())
 }
 
-// Of so many slots' lines from a place on, the first of which is line 2, and of what comes behind them.
-fn slots_fault(text: &[u8], from: usize, count: usize) -> Fault
+// Of so many slots' lines, the first of which is line 2, and of what comes behind them.
+fn slots_fault(text: &[u8], count: usize) -> Result<(), Fault>
     requires { count ≤ 65536 }
-    ensures { result ≡ slots_fault 2 count (drop from text.now) }
+    ensures { result ≡ slots_fault 2 count text.now }
 {
-    let mut left = count;
-    let mut at = from;
-    let mut line: u64 = 2;
-    while 0 < left {
-        let step = line_from(text, at, 8);
-        let found = step.line;
-        if lines::is_number(found) {
-            at = step.next;
-            left -= 1;
-            line += 1;
-        } else {
-            return line_fault(text, at, 8, line);
-        }
+    let mut rest = text;
+    let end = 2 + count as u64;
+    for line in 2..end {
+        line_fault(rest, 8, line)?;
+        rest = &rest[9..];
     }
-    if at < text.len() {
-        return fault_at(line, 1, TEXT_END);
+    if rest.is_empty() {
+        return Ok(());
     }
-    fault_at(0, 0, 0)
+    fault_at(end, 1, Expected::TextEnd)
 }
 
 // The same, with the numbers read.
-fn first_fault(text: &[u8]) -> Fault
+#[tactic(auto, unfolding(crate::specs::Faults::first_fault))]
+fn first_fault(text: &[u8]) -> Result<(), Fault>
     requires { is_line 16 text.now ≡ true }
     ensures { result ≡ first_fault text.now }
 {
@@ -165,18 +143,13 @@ fn first_fault(text: &[u8]) -> Fault
     state_fault(kind, form, cap, head, len)
 }
 
-// Of the whole text.
-pub(crate) fn find(text: &[u8]) -> Fault
+// Of the whole text: none in one that is acceptable.
+#[tactic(auto, unfolding(crate::specs::Faults::fault))]
+pub(crate) fn find(text: &[u8]) -> Result<(), Fault>
     ensures { result ≡ fault text.now }
 {
-    let line = line_fault(text, 0, 16, 1);
-    if line.what != 0 {
-        return line;
-    }
-    let first = first_fault(text);
-    if first.what != 0 {
-        return first;
-    }
-    let cap = field_at(text, 4, 4);
-    slots_fault(text, 17, cap as usize)
+    line_fault(text, 16, 1)?;
+    first_fault(text)?;
+    let cap = field_at(text, 4, 4) as usize;
+    slots_fault(&text[17..], cap)
 }

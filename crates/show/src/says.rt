@@ -1,10 +1,10 @@
 // The other lines: a container's own, and that of a fault.
+// A text and a place, and no Display, as in `words`.
 ghost use Rattle.std.specs.Prelude.{◌+◌, ◌≤◌, length};
 ghost use Rattle.words.specs.Wrote.{Wrote};
 ghost use Rattle.show.specs.Lines.{sized, headed, len_total, ring_line, vector_line, older_line, older_said, expected, place_of, fault_line};
 
-use super::faults;
-use super::faults::Fault;
+use super::faults::{Expected, Fault};
 use words::{put_decimal, put_numbered, put_several, put_text};
 
 // A kind's words and so many slots.
@@ -35,6 +35,7 @@ fn put_len_total(len: u64, total: u64, out: &mut [u8], at: usize) -> usize
     put_numbered(total, b"\n", out, end)
 }
 
+// A ring's line and a vector's stay two: a vector's has no head, and what both have stands in `put_sized` and `put_len_total`.
 pub(crate) fn put_ring(
     cap: u64,
     head: u64,
@@ -69,6 +70,7 @@ fn put_older(head: u64, out: &mut [u8], at: usize) -> usize
 }
 
 // The same, where it has another than it is read with.
+#[tactic(auto, using(std::proofs::lemmas::Bool::Decides::nat_tests), unfolding(crate::specs::Lines::older_said))]
 pub(crate) fn put_older_said(was: u64, head: u64, out: &mut [u8], at: usize) -> usize
     requires { at + 60 ≤ length out.old }
     ensures { Wrote out.old at (older_said was head) result out.new × (result ≤ at + 60) }
@@ -80,38 +82,23 @@ pub(crate) fn put_older_said(was: u64, head: u64, out: &mut [u8], at: usize) -> 
 }
 
 // What was expected.
-fn put_expected(what: u8, out: &mut [u8], at: usize) -> usize
+#[tactic(auto, unfolding(crate::specs::Lines::expected))]
+fn put_expected(what: Expected, out: &mut [u8], at: usize) -> usize
     requires { at + 50 ≤ length out.old }
     ensures { Wrote out.old at (expected what) result out.new × (result ≤ at + 50) }
 {
-    if what == faults::A_DIGIT {
-        return put_text(b"a digit 0-9 or a-f", out, at);
+    match what {
+        Expected::ADigit => put_text(b"a digit 0-9 or a-f", out, at),
+        Expected::LineEnd => put_text(b"the end of the line (LF)", out, at),
+        Expected::AKind => put_text(b"00 for a ring or 01 for a vector", out, at),
+        Expected::ZeroByte => put_text(b"00", out, at),
+        Expected::FewSlots => put_text(b"a capacity of at most 4096 (hexadecimal 1000)", out, at),
+        Expected::AHead => put_text(b"a head below the capacity", out, at),
+        Expected::NoHead => put_text(b"0000, since a vector has no head", out, at),
+        Expected::NoSlots => put_text(b"0000, since there are no slots", out, at),
+        Expected::ALength => put_text(b"a length of at most the capacity", out, at),
+        Expected::TextEnd => put_text(b"the end of the text", out, at),
     }
-    if what == faults::LINE_END {
-        return put_text(b"the end of the line (LF)", out, at);
-    }
-    if what == faults::A_KIND {
-        return put_text(b"00 for a ring or 01 for a vector", out, at);
-    }
-    if what == faults::ZERO_BYTE {
-        return put_text(b"00", out, at);
-    }
-    if what == faults::FEW_SLOTS {
-        return put_text(b"a capacity of at most 4096 (hexadecimal 1000)", out, at);
-    }
-    if what == faults::A_HEAD {
-        return put_text(b"a head below the capacity", out, at);
-    }
-    if what == faults::NO_HEAD {
-        return put_text(b"0000, since a vector has no head", out, at);
-    }
-    if what == faults::NO_SLOTS {
-        return put_text(b"0000, since there are no slots", out, at);
-    }
-    if what == faults::A_LENGTH {
-        return put_text(b"a length of at most the capacity", out, at);
-    }
-    put_text(b"the end of the text", out, at)
 }
 
 // Where the fault is.

@@ -53,16 +53,6 @@ tells_number x y = go (eqb x y) refl
     go true e = tells_yes _ _ (ap (λ z. z ∷ []) (eqb-true x y e))
     go false e = tells_no _ _ (λ q. eqb-false x y e (cc))
 
-module _ (n : ℕ) (s s2 : List ℕ) (fits : n ≤ length s) (fits2 : n ≤ length s2) where
-  pub few_more : (k : ℕ) → take k s ≡ take k s2 → k < n → get_or s k 0 ≡ get_or s2 k 0 → take (k + 1) s ≡ take (k + 1) s2
-  few_more k e lt same = rw add-one (take-suc s k 0 (omega arith) ∙ (cc) ∙ sym (take-suc s2 k 0 (omega arith)))
-
-  pub few_differ : (k : ℕ) → k < n → (get_or s k 0 ≡ get_or s2 k 0 → ⊥) → Tells false (take n s) (take n s2)
-  few_differ k lt ne = tells_no _ _ (λ e. ne (sym (get_or-take n s k 0 lt) ∙ ap (λ (l : List ℕ). get_or l k 0) e ∙ get_or-take n s2 k 0 lt))
-
-  pub few_all : (k : ℕ) → take k s ≡ take k s2 → k ≤ n → n ≤ k → Tells true (take n s) (take n s2)
-  few_all k e le ge = let q : k ≡ n = omega arith in tells_yes _ _ (rw q at e)
-
 -- A BLOCK of w numbers from at on, of which the first j were compared
 pub block_none : (at : ℕ) (s s2 : List ℕ) → Tells true (take 0 (drop at s)) (take 0 (drop at s2))
 block_none at s s2 = tells_yes _ _ refl

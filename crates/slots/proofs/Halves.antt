@@ -54,9 +54,9 @@ module _ (l s : List ℕ) (i x : ℕ) (m : Filled itself 0 i x l s) (h : i < len
   filled_wrapped_more sum r e er = er ∙ rw still (wrapped_more l i sum e h)
 
 -- `low` is the sum less the high halves' part of it, modulo 2 to the 32nd
-pub by_halves : (l : List ℕ) (i sum high low : ℕ) → sum ≡ total (take i l) % 2 ^ 32 → high ≡ highs (take i l) → length l ≤ i → length l ≤ most
-    → (low + high % 65536 * 65536) % 2 ^ 32 ≡ sum → low < 2 ^ 32 → low + high * 65536 ≡ total l
-by_halves l i sum high low e eh all fits part small =
+pub by_halves : (l : List ℕ) (i sum high r : ℕ) → sum ≡ total (take i l) % 2 ^ 32 → high ≡ highs (take i l) → length l ≤ i → length l ≤ most
+    → ((low : ℕ) × (low < 2 ^ 32) × ((low + high % 65536 * 65536) % 2 ^ 32 ≡ sum) × (r ≡ low + high * 65536)) → r ≡ total l
+by_halves l i sum high r e eh all fits (low, small, part, is) =
     let sum_is : sum ≡ total l % 2 ^ 32 = e ∙ ap (λ l. total l % 2 ^ 32) (take_all i l all) in
     let high_is : high ≡ highs l = eh ∙ ap highs (take_all i l all) in
-    omega (arith, sum_is, high_is, part, small, parted l, few_lows l)
+    omega (arith, sum_is, high_is, part, small, is, parted l, few_lows l)

@@ -56,11 +56,6 @@ lay_same : (place : ℕ → ℕ) (at count : ℕ) (s s' old new : List ℕ) → 
     → Laid place at count s' old new
 lay_same place at count s s' old new same m = record { long = m.long; low = m.low; held = λ e h. m.held e h ∙ same e h; high = m.high }
 
--- laid into a local first, and from there
-pub lay_through : (at count : ℕ) (s w held old new : List ℕ) → Laid itself 0 count s w held → Laid itself at count held old new
-    → Laid itself at count s old new
-lay_through at count s w held old new m m' = lay_same itself at count held s old new (λ e h. ap (λ k. get_or held k 0) (omega arith) ∙ m.held e h) m'
-
 -- two that meet are one
 lay_join : (place : ℕ → ℕ) (at a count : ℕ) (s old mid new : List ℕ) → a ≤ count → at + count ≤ length old → Laid place at a s old mid
     → Laid place (at + a) (count - a) (drop a s) mid new → Laid place at count s old new

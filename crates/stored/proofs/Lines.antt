@@ -50,16 +50,20 @@ pub line_put : (text mid : List ℕ) (at x : ℕ) → at + 9 ≤ length text →
 unfolding slot_line
 line_put text mid at x long em = put_ended text mid at 8 x lf (put_within (at + 9) text mid at 8 x long em (omega arith)).0
 
--- one more slot's line
-pub slots_turn : (slots text mid all : List ℕ) (i at : ℕ) → put text at (slot_lines (drop i slots)) ≡ all → i < length slots
-    → mid ≡ put text at (slot_line (get_or slots i 0)) → put mid (at + 9) (slot_lines (drop (i + 1) slots)) ≡ all
+-- slot after slot: the lines that are put, with those that are left put behind them, are always all
+pub slots_start : (slots text : List ℕ) (from : ℕ) → put text (from + 9 * 0) (slot_lines (drop 0 slots)) ≡ put text from (slot_lines slots)
+slots_start slots text from = let e : from + 9 * 0 ≡ from = omega arith in rw e
+
+pub slots_turn : (slots text mid all : List ℕ) (i from : ℕ) → put text (from + 9 * i) (slot_lines (drop i slots)) ≡ all → i < length slots
+    → mid ≡ put text (from + 9 * i) (slot_line (get_or slots i 0)) → put mid (from + 9 * (i + 1)) (slot_lines (drop (i + 1) slots)) ≡ all
 unfolding slot_lines
-slots_turn slots text mid all i at is lt em =
+slots_turn slots text mid all i from is lt em =
     let x : ℕ = get_or slots i 0 in
+    let at : ℕ = from + 9 * i in
     let left : drop i slots ≡ x ∷ drop (i + 1) slots = rw (add-one, drop-cons slots i 0) in
     let rest : List ℕ = slot_lines (drop (i + 1) slots) in
-    ap (λ t. put t (at + 9) rest) em
-    ∙ put_after text (slot_line x) rest at 9 (at + 9) (length_slot_line x) refl
+    ap (λ t. put t (from + 9 * (i + 1)) rest) em
+    ∙ put_after text (slot_line x) rest at 9 (from + 9 * (i + 1)) (length_slot_line x) (omega arith)
     ∙ sym (ap (λ s. put text at (slot_lines s)) left)
     ∙ is
 

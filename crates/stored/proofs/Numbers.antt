@@ -12,6 +12,7 @@ use denote.Triple.Clauses.{AtExit}
 use borrow.Fn.World.{ArgsD, ResD}
 use Rattle.slots.specs.Layout.{Kind, ring, vector}
 use Rattle.table.specs.Tray.{Tray, cap}
+use Rattle.table.specs.Answers.{numbered}
 use Rattle.table.proofs.Laws.Refusals.{Settled, settled}
 use Rattle.table.proofs.Theorems.Numbers.{Answers, Tests, answers}
 use Rattle.digits.specs.Put.{put}
@@ -56,9 +57,9 @@ module _ (k : Kind) (t : Tray) (text : List ℕ) where
 -- From each function's generated contract: a are the arguments, r is the result, and e the arguments as they are at the return.
 module _ (κs : Lfts 2) where
   pub ring_text_numbers : (a : ArgsD ring_text·fn.signature κs) (r : ResD ring_text·fn.signature κs) (e : AtExit ring_text·fn.ended κs)
-      → ring_text·reads.Learnt κs a r e → Answers (AppliesText ring (rings.tray a.0 a.1.0.now) a.1.1.0.now) r.number
+      → ring_text·reads.Learnt κs a r e → Answers (AppliesText ring (rings.tray a.0 a.1.0.now) a.1.1.0.now) (numbered a.0 r).number
   ring_text_numbers a r e learnt = text_numbers _ _ _ _ learnt.row
 
   pub vector_text_numbers : (a : ArgsD vector_text·fn.signature κs) (r : ResD vector_text·fn.signature κs) (e : AtExit vector_text·fn.ended κs)
-      → vector_text·reads.Learnt κs a r e → Answers (AppliesText vector (vectors.tray a.0 a.1.0.now) a.1.1.0.now) r.number
+      → vector_text·reads.Learnt κs a r e → Answers (AppliesText vector (vectors.tray a.0 a.1.0.now) a.1.1.0.now) (numbered a.0 r).number
   vector_text_numbers a r e learnt = text_numbers _ _ _ _ learnt.row

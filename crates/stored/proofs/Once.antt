@@ -5,9 +5,12 @@ use Prim.Native.Nat.{ℕ}
 use contract.Lifetimes.{Lfts}
 use Rattle.slots.proofs.Twice.{Twice}
 use Rattle.runs.specs.declared.total.Total.{Total}
-use Rattle.ring.specs.declared.Answer as ring_answer
+use Rattle.table.specs.Answers.{numbered}
+use Rattle.table.specs.declared.answers.Numbered.{Numbered}
+use Rattle.table.proofs.Laws.Numbered.{same_answer}
+use Rattle.ring.specs.declared.Ring.{Ring}
 use Rattle.ring.specs.Seen as rings
-use Rattle.vector.specs.declared.Answer as vector_answer
+use Rattle.vector.specs.declared.Vector.{Vector}
 use Rattle.vector.specs.Seen as vectors
 use Rattle.stored.specs.Written.{Written}
 use Rattle.stored.specs.Seen.{seen_ring, seen_vector}
@@ -25,31 +28,35 @@ one seen beside read back kept w b a a' text text' p q x y = (
   sym (kept a text) ∙ ap (λ (w : Written). w.text) (p ∙ sym q) ∙ kept a' text',
 )
 
-abbrev ring_back : Written → ℕ × Total → ring_answer.Answer
+abbrev ring_back : Written → ℕ × Total → Numbered Ring
 ring_back w b = record {
   number = w.outcome.number;
   value = w.outcome.value;
   moves = w.outcome.moves;
   slot = b.0;
-  ring = rings.state w.outcome.tray.head w.outcome.tray.len b.1;
+  state = rings.state w.outcome.tray.head w.outcome.tray.len b.1;
 }
 
-abbrev vector_back : Written → ℕ × Total → vector_answer.Answer
+abbrev vector_back : Written → ℕ × Total → Numbered Vector
 vector_back w b = record {
   number = w.outcome.number;
   value = w.outcome.value;
   moves = w.outcome.moves;
   slot = b.0;
-  vector = vectors.state w.outcome.tray.len b.1;
+  state = vectors.state w.outcome.tray.len b.1;
 }
 
 module _ (κs : Lfts 2) where
   pub ring_text_once : Twice ring_text·fn.ended κs (ring_text·reads.Learnt κs) (λ r e r' e'. (r ≡ r') × (e.1.1.0.now ≡ e'.1.1.0.now))
   ring_text_once a r r' e e' p q =
-      one {B = ℕ × Total} (λ r text. seen_ring r a.1.0.now text) (λ r. (r.slot, r.ring.total)) ring_back (λ r text. refl) (λ r text. refl)
-      _ _ r r' _ _ p.row q.row (ap₂ (λ n t. (n, t)) p.slot p.total) (ap₂ (λ n t. (n, t)) q.slot q.total)
+      let same =
+      one {B = ℕ × Total} (λ n text. seen_ring n a.1.0.now text) (λ n. (n.slot, n.state.total)) ring_back (λ n text. refl) (λ n text. refl)
+      _ _ (numbered a.0 r) (numbered a.0 r') _ _ p.row q.row (ap₂ (λ n t. (n, t)) p.slot p.total) (ap₂ (λ n t. (n, t)) q.slot q.total) in
+      (same_answer a.0 r r' same.0, same.1)
 
   pub vector_text_once : Twice vector_text·fn.ended κs (vector_text·reads.Learnt κs) (λ r e r' e'. (r ≡ r') × (e.1.1.0.now ≡ e'.1.1.0.now))
   vector_text_once a r r' e e' p q =
-      one {B = ℕ × Total} (λ r text. seen_vector r a.1.0.now text) (λ r. (r.slot, r.vector.total)) vector_back (λ r text. refl) (λ r text. refl)
-      _ _ r r' _ _ p.row q.row (ap₂ (λ n t. (n, t)) p.slot p.total) (ap₂ (λ n t. (n, t)) q.slot q.total)
+      let same =
+      one {B = ℕ × Total} (λ n text. seen_vector n a.1.0.now text) (λ n. (n.slot, n.state.total)) vector_back (λ n text. refl) (λ n text. refl)
+      _ _ (numbered a.0 r) (numbered a.0 r') _ _ p.row q.row (ap₂ (λ n t. (n, t)) p.slot p.total) (ap₂ (λ n t. (n, t)) q.slot q.total) in
+      (same_answer a.0 r r' same.0, same.1)

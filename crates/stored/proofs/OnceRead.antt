@@ -11,10 +11,10 @@ use Rattle.stored.specs.contracts.readers as readers·promise
 
 module _ (κs : Lfts 2) where
   pub ring_read_once : Twice readers·promise.ring_read.ended κs (readers.ring_read.Reads.Learnt κs) (λ r e r' e'. (r ≡ r') × (e.1.0.now ≡ e'.1.0.now))
-  ring_read_once a r r' e e' p q = rings.told_by _ _ _ r r' _ _ p.row q.row p.slot q.slot p.total q.total
+  ring_read_once a r r' e e' p q = rings.told_by _ _ _ _ r r' _ _ p.row q.row p.slot q.slot p.total q.total
 
   pub vector_read_once : Twice readers·promise.vector_read.ended κs (readers.vector_read.Reads.Learnt κs) (λ r e r' e'. (r ≡ r') × (e.1.0.now ≡ e'.1.0.now))
-  vector_read_once a r r' e e' p q = vectors.told_by _ _ _ r r' _ _ p.row q.row p.slot q.slot p.total q.total
+  vector_read_once a r r' e e' p q = vectors.told_by _ _ _ _ r r' _ _ p.row q.row p.slot q.slot p.total q.total
 
 module _ (κs : Lfts 1) where
   pub check_once : Twice judges·promise.check.ended κs (judges.check.Reads.Learnt κs) (λ r e r' e'. r ≡ r')

@@ -7,6 +7,7 @@ use denote.Triple.Clauses.{AtExit}
 use borrow.Fn.World.{ArgsD, ResD}
 use Rattle.slots.specs.Layout.{Kind, ring, vector}
 use Rattle.table.specs.Tray.{Tray, cap}
+use Rattle.table.specs.Answers.{numbered}
 use Rattle.table.specs.Promise.{Kept}
 use Rattle.table.specs.World.{World, called, Ours}
 use Rattle.table.proofs.Laws.Refusals.{either}
@@ -47,10 +48,10 @@ storing_sized text = showing_sized _ _ (λ k t. as_it_was k t text)
 module _ (w : World) (i : ℕ) (κs : Lfts 2) where
   pub ring_text_ours : (a : ArgsD ring_text·fn.signature κs) (r : ResD ring_text·fn.signature κs) (e : AtExit ring_text·fn.ended κs)
       → Is w i ring (rings.tray a.0 a.1.0.now) → ring_text·reads.Learnt κs a r e
-      → Ours w (called i (storing a.1.1.0.now) (rings.seen r a.1.0.now))
+      → Ours w (called i (storing a.1.1.0.now) (rings.seen (numbered a.0 r) a.1.0.now))
   ring_text_ours a r e is learnt = ours_called w i ring _ _ _ (storing_kept _) refl is (ap (λ (w : Written). w.outcome) learnt.row)
 
   pub vector_text_ours : (a : ArgsD vector_text·fn.signature κs) (r : ResD vector_text·fn.signature κs) (e : AtExit vector_text·fn.ended κs)
       → Is w i vector (vectors.tray a.0 a.1.0.now) → vector_text·reads.Learnt κs a r e
-      → Ours w (called i (storing a.1.1.0.now) (vectors.seen r a.1.0.now))
+      → Ours w (called i (storing a.1.1.0.now) (vectors.seen (numbered a.0 r) a.1.0.now))
   vector_text_ours a r e is learnt = ours_called w i vector _ _ _ (storing_kept _) refl is (ap (λ (w : Written). w.outcome) learnt.row)

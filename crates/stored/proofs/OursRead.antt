@@ -10,6 +10,7 @@ use denote.Triple.Clauses.{AtExit}
 use borrow.Fn.World.{ArgsD, ResD}
 use Rattle.slots.specs.Layout.{Kind, ring, vector}
 use Rattle.table.specs.Tray.{cap, list}
+use Rattle.table.specs.Answers.{numbered}
 use Rattle.table.specs.Calls.{alike}
 use Rattle.table.specs.Does.{Outcome}
 use Rattle.table.specs.Ledger.{if_done}
@@ -64,9 +65,9 @@ ours_read w k text slots o can e = (can, e, reading_arrives k text)
 -- In what follows a are the arguments, r is the result, and e the arguments as they are at the return.
 module _ (w : World) (κs : Lfts 2) where
   pub ring_read_ours : (a : ArgsD readers·promise.ring_read.signature κs) (r : ResD readers·promise.ring_read.signature κs) (e : AtExit readers·promise.ring_read.ended κs)
-      → readers.ring_read.Reads.Learnt κs a r e → Ours w (arrived ring (reading ring a.0.now) a.1.0.now (rings.seen r e.1.0.now))
+      → readers.ring_read.Reads.Learnt κs a r e → Ours w (arrived ring (reading ring a.0.now) a.1.0.now (rings.seen (numbered rings.bare_ring r) e.1.0.now))
   ring_read_ours a r e learnt = ours_read w ring _ _ _ refl learnt.row
 
   pub vector_read_ours : (a : ArgsD readers·promise.vector_read.signature κs) (r : ResD readers·promise.vector_read.signature κs) (e : AtExit readers·promise.vector_read.ended κs)
-      → readers.vector_read.Reads.Learnt κs a r e → Ours w (arrived vector (reading vector a.0.now) a.1.0.now (vectors.seen r e.1.0.now))
+      → readers.vector_read.Reads.Learnt κs a r e → Ours w (arrived vector (reading vector a.0.now) a.1.0.now (vectors.seen (numbered vectors.none r) e.1.0.now))
   vector_read_ours a r e learnt = ours_read w vector _ _ _ refl learnt.row

@@ -14,6 +14,7 @@ use Rattle.slots.specs.Layout.{Kind, ring, vector}
 use Rattle.slots.specs.Total.{total}
 use Rattle.table.specs.Tray.{Tray, cap, list, valid}
 use Rattle.table.specs.Does.{Outcome}
+use Rattle.table.specs.Answers.{numbered}
 use Rattle.table.proofs.Laws.Refusals.{either, above_zero}
 use Rattle.digits.specs.Put.{put}
 use Rattle.digits.proofs.Puts.{put_read}
@@ -69,15 +70,15 @@ module _ (k : Kind) (t : Tray) (headed : t.head ≡ head_in k t.head) (words : W
 module _ (κs κs2 : Lfts 2) where
   pub ring_there_and_back : (a : ArgsD ring_text·fn.signature κs) (r : ResD ring_text·fn.signature κs) (e : AtExit ring_text·fn.ended κs)
       (b : ArgsD readers·promise.ring_read.signature κs2) (s : ResD readers·promise.ring_read.signature κs2) (f : AtExit readers·promise.ring_read.ended κs2)
-      → ring_text·reads.Learnt κs a r e → readers.ring_read.Reads.Learnt κs2 b s f → r.number ≡ 0 → Words a.1.0.now
+      → ring_text·reads.Learnt κs a r e → readers.ring_read.Reads.Learnt κs2 b s f → (numbered a.0 r).number ≡ 0 → Words a.1.0.now
       → b.0.now ≡ take (size (length a.1.0.now)) e.1.1.0.now → length a.1.0.now ≡ length b.1.0.now
-      → (s.number ≡ 0) × (s.ring.head ≡ a.0.head) × (s.ring.len ≡ a.0.len) × (f.1.0.now ≡ a.1.0.now)
-      × (s.ring.total.sum ≡ total (list ring (rings.tray a.0 a.1.0.now)))
+      → ((numbered rings.bare_ring s).number ≡ 0) × ((numbered rings.bare_ring s).state.head ≡ a.0.head) × ((numbered rings.bare_ring s).state.len ≡ a.0.len) × (f.1.0.now ≡ a.1.0.now)
+      × ((numbered rings.bare_ring s).state.total.sum ≡ total (list ring (rings.tray a.0 a.1.0.now)))
   ring_there_and_back a r e b s f p q done words these same =
       let t : Tray = rings.tray a.0 a.1.0.now in
       let ok : (writes ring t a.1.1.0.now).outcome.number ≡ 0 = sym (ap (λ (w : Written). w.outcome.number) p.row) ∙ done in
       let left = ap (λ (w : Written). w.text) p.row in
-      let is : rings.seen s f.1.0.now ≡ given t = q.row ∙ back ring t refl words a.1.1.0.now e.1.1.0.now b.0.now b.1.0.now ok left these same in (
+      let is : rings.seen (numbered rings.bare_ring s) f.1.0.now ≡ given t = q.row ∙ back ring t refl words a.1.1.0.now e.1.1.0.now b.0.now b.1.0.now ok left these same in (
         ap (λ (o : Outcome). o.number) is,
         ap (λ (o : Outcome). o.tray.head) is,
         ap (λ (o : Outcome). o.tray.len) is,
@@ -87,14 +88,14 @@ module _ (κs κs2 : Lfts 2) where
 
   pub vector_there_and_back : (a : ArgsD vector_text·fn.signature κs) (r : ResD vector_text·fn.signature κs) (e : AtExit vector_text·fn.ended κs)
       (b : ArgsD readers·promise.vector_read.signature κs2) (s : ResD readers·promise.vector_read.signature κs2) (f : AtExit readers·promise.vector_read.ended κs2)
-      → vector_text·reads.Learnt κs a r e → readers.vector_read.Reads.Learnt κs2 b s f → r.number ≡ 0 → Words a.1.0.now
+      → vector_text·reads.Learnt κs a r e → readers.vector_read.Reads.Learnt κs2 b s f → (numbered a.0 r).number ≡ 0 → Words a.1.0.now
       → b.0.now ≡ take (size (length a.1.0.now)) e.1.1.0.now → length a.1.0.now ≡ length b.1.0.now
-      → (s.number ≡ 0) × (s.vector.len ≡ a.0.len) × (f.1.0.now ≡ a.1.0.now) × (s.vector.total.sum ≡ total (list vector (vectors.tray a.0 a.1.0.now)))
+      → ((numbered vectors.none s).number ≡ 0) × ((numbered vectors.none s).state.len ≡ a.0.len) × (f.1.0.now ≡ a.1.0.now) × ((numbered vectors.none s).state.total.sum ≡ total (list vector (vectors.tray a.0 a.1.0.now)))
   vector_there_and_back a r e b s f p q done words these same =
       let t : Tray = vectors.tray a.0 a.1.0.now in
       let ok : (writes vector t a.1.1.0.now).outcome.number ≡ 0 = sym (ap (λ (w : Written). w.outcome.number) p.row) ∙ done in
       let left = ap (λ (w : Written). w.text) p.row in
-      let is : vectors.seen s f.1.0.now ≡ given t = q.row ∙ back vector t refl words a.1.1.0.now e.1.1.0.now b.0.now b.1.0.now ok left these same in (
+      let is : vectors.seen (numbered vectors.none s) f.1.0.now ≡ given t = q.row ∙ back vector t refl words a.1.1.0.now e.1.1.0.now b.0.now b.1.0.now ok left these same in (
         ap (λ (o : Outcome). o.number) is,
         ap (λ (o : Outcome). o.tray.len) is,
         ap (λ (o : Outcome). o.tray.slots) is,
@@ -105,10 +106,10 @@ module _ (κs κs2 : Lfts 2) where
   pub ring_back_and_there : (b : ArgsD readers·promise.ring_read.signature κs2) (s : ResD readers·promise.ring_read.signature κs2) (f : AtExit readers·promise.ring_read.ended κs2)
       (a : ArgsD ring_text·fn.signature κs) (r : ResD ring_text·fn.signature κs) (e : AtExit ring_text·fn.ended κs)
       → readers.ring_read.Reads.Learnt κs2 b s f → ring_text·reads.Learnt κs a r e → (t : Tray) → Sound ring t → b.0.now ≡ form ring t → cap t ≡ length b.1.0.now
-      → a.0 ≡ s.ring → a.1.0.now ≡ f.1.0.now → length b.0.now ≤ length a.1.1.0.now → e.1.1.0.now ≡ put a.1.1.0.now 0 b.0.now
+      → a.0 ≡ (numbered rings.bare_ring s).state → a.1.0.now ≡ f.1.0.now → length b.0.now ≤ length a.1.1.0.now → e.1.1.0.now ≡ put a.1.1.0.now 0 b.0.now
   ring_back_and_there b s f a r e q p t sound is same state slots room =
       let tray : rings.tray a.0 a.1.0.now ≡ (reads ring b.0.now b.1.0.now).tray =
-      ap (λ r. rings.tray r a.1.0.now) state ∙ ap (rings.tray s.ring) slots ∙ ap (λ (o : Outcome). o.tray) q.row in
+      ap (λ r. rings.tray r a.1.0.now) state ∙ ap (rings.tray (numbered rings.bare_ring s).state) slots ∙ ap (λ (o : Outcome). o.tray) q.row in
       ap (λ (w : Written). w.text) p.row
       ∙ ap (λ t. (writes ring t a.1.1.0.now).text) tray
       ∙ write_read ring t b.0.now b.1.0.now a.1.1.0.now sound is same room
@@ -116,10 +117,10 @@ module _ (κs κs2 : Lfts 2) where
   pub vector_back_and_there : (b : ArgsD readers·promise.vector_read.signature κs2) (s : ResD readers·promise.vector_read.signature κs2) (f : AtExit readers·promise.vector_read.ended κs2)
       (a : ArgsD vector_text·fn.signature κs) (r : ResD vector_text·fn.signature κs) (e : AtExit vector_text·fn.ended κs)
       → readers.vector_read.Reads.Learnt κs2 b s f → vector_text·reads.Learnt κs a r e → (t : Tray) → Sound vector t → b.0.now ≡ form vector t → cap t ≡ length b.1.0.now
-      → a.0 ≡ s.vector → a.1.0.now ≡ f.1.0.now → length b.0.now ≤ length a.1.1.0.now → e.1.1.0.now ≡ put a.1.1.0.now 0 b.0.now
+      → a.0 ≡ (numbered vectors.none s).state → a.1.0.now ≡ f.1.0.now → length b.0.now ≤ length a.1.1.0.now → e.1.1.0.now ≡ put a.1.1.0.now 0 b.0.now
   vector_back_and_there b s f a r e q p t sound is same state slots room =
       let tray : vectors.tray a.0 a.1.0.now ≡ (reads vector b.0.now b.1.0.now).tray =
-      ap (λ v. vectors.tray v a.1.0.now) state ∙ ap (vectors.tray s.vector) slots ∙ ap (λ (o : Outcome). o.tray) q.row in
+      ap (λ v. vectors.tray v a.1.0.now) state ∙ ap (vectors.tray (numbered vectors.none s).state) slots ∙ ap (λ (o : Outcome). o.tray) q.row in
       ap (λ (w : Written). w.text) p.row
       ∙ ap (λ t. (writes vector t a.1.1.0.now).text) tray
       ∙ write_read vector t b.0.now b.1.0.now a.1.1.0.now sound is same room

@@ -19,3 +19,4 @@ pub mod Rows
 pub mod Keeps
 pub mod Named
 pub mod Within
+pub mod Numbered

@@ -5,6 +5,7 @@ pub mod Table
 pub mod Numbers
 pub mod Does
 pub mod Reported
+pub mod Answers
 pub mod Totals
 pub mod Within
 pub mod Parts

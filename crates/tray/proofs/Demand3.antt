@@ -39,10 +39,10 @@ module _ (κs : Lfts 0) (a : ArgsD start·fn.signature κs) (t : ResD start·fn.
   abbrev pub input : List ℕ
   input = read.bytes
 
-  pub all_read : length input ≡ r.read
+  pub all_read : length input ≡ r.0.read
   all_read = read.all
 
-  there : ran.Stands r.state input
+  there : ran.Stands r.0.state input
   there =
       read.state
       ∙ ap (λ (u : State). (feeds keeping (midway u) input).state) from
@@ -51,17 +51,17 @@ module _ (κs : Lfts 0) (a : ArgsD start·fn.signature κs) (t : ResD start·fn.
   -- DEMAND 3 OF A RUN SO FAR, or of one that ends because its output is closed: of the lines that an LF ended.
   pub demand_3_so_far : (x : ℕ)
       → entered x [] (lines (happened (finished [] input)))
-      ≡ handed x [] (lines (happened (finished [] input))) + dropped x [] (lines (happened (finished [] input))) + standing_all x (world r.state.trays)
-  demand_3_so_far = ran.demand_3_so_far r.state input there
+      ≡ handed x [] (lines (happened (finished [] input))) + dropped x [] (lines (happened (finished [] input))) + standing_all x (world r.0.state.trays)
+  demand_3_so_far = ran.demand_3_so_far r.0.state input there
 
   -- DEMAND 3 OF A WHOLE RUN, once `ended` gave z: of all lines.
   module _ (κs4 : Lfts 0) (a4 : ArgsD ended·fn.signature κs4) (z : ResD ended·fn.signature κs4) (e4 : AtExit ended·fn.ended κs4)
-      (last : a4.0 ≡ r.state) (done : ended·reads.Learnt κs4 a4 z e4) where
+      (last : a4.0 ≡ r.0.state) (done : ended·reads.Learnt κs4 a4 z e4) where
     pub demand_3_of_tray : (x : ℕ)
         → entered x [] (lines (happened (lines_of [] input)))
         ≡ handed x [] (lines (happened (lines_of [] input))) + dropped x [] (lines (happened (lines_of [] input))) + standing_all x (world z.trays)
-    demand_3_of_tray = ran.demand_3_at_end r.state input there κs4 a4 z e4 last done
+    demand_3_of_tray = ran.demand_3_at_end r.0.state input there κs4 a4 z e4 last done
 
     -- and the model lists that it counts over are what the slots hold
     pub models_of_tray : held (world z.trays) ≡ modelled [] (lines (happened (lines_of [] input)))
-    models_of_tray = ran.models_at_end r.state input there κs4 a4 z e4 last done
+    models_of_tray = ran.models_at_end r.0.state input there κs4 a4 z e4 last done

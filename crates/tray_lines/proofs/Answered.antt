@@ -2,6 +2,7 @@
 use mathlib.Core.Path.{◌≡◌, refl, sym, ap, ◌∙◌}
 use mathlib.Core.List.{List, [], ◌∷◌, ◌++◌, append-nil}
 use Prim.Native.Nat.{ℕ, ◌≤◌}
+use Rattle.std.specs.Prelude.{Result, Ok, Err}
 use native.Mathlib.Omega.{arith}
 use lib.ListN.{length, set, replicate, length-append, drop_of_length-le}
 use Rattle.digits.specs.Hex.{hex, lf}
@@ -9,10 +10,10 @@ use Rattle.digits.specs.Put.{put, put_whole}
 use Rattle.digits.proofs.Puts.{put_within, after_hex, put_ended, put_start, length_hex}
 use Rattle.table.specs.World.{World}
 use Rattle.tray_lines.specs.declared.lines.Call.{Call}
-use Rattle.tray_lines.specs.declared.lines.Said.{Said}
+use Rattle.tray_lines.specs.declared.lines.Unsaid.{Unsaid}
 use Rattle.tray_lines.specs.declared.acts.Answer.{Answer}
-use Rattle.tray_lines.specs.declared.acts.Acted.{Acted}
-use Rattle.tray_lines.specs.Lines.{said}
+use Rattle.tray_lines.specs.declared.acts.After.{After}
+use Rattle.tray_lines.specs.Lines.{number_in, said}
 use Rattle.tray_lines.specs.Acts.{Acts, acts}
 use Rattle.tray_lines.specs.Seen.{acted_seen}
 use Rattle.tray_lines.specs.Answers.{line_of, bare, Tells, tells_of, tells}
@@ -56,10 +57,9 @@ line_put z a b c d e f x ez ea eb ec ed ee ef =
     ∙ after_hex z 0 2 x.number 2 s1 refl
     ∙ all_of (line_of x) z (length_line x ∙ sym (ap length ez))
 
-length_of : (w : World) (s : Said) → length (tells_of w s).text ≡ 27
-length_of w (Said.Call c) = length_line (acts w c).answer
-length_of w Said.Garbled = length_line (bare 7)
-length_of w Said.Unknown = length_line (bare 8)
+length_of : (w : World) (s : Result Call Unsaid) → length (tells_of w s).text ≡ 27
+length_of w (Ok c) = length_line (acts w c).answer
+length_of w (Err e) = length_line (bare (number_in e))
 
 -- every answer has 27 bytes
 pub length_tells : (w : World) (l : List ℕ) → length (tells w l).text ≡ 27
@@ -67,19 +67,14 @@ unfolding tells
 length_tells w l = length_of w (said l)
 
 -- what the code has at each return: `s` is what the line says
-pub tell_call : (w : World) (l text : List ℕ) (s : Said) (c : Call) (a : Acted) → s ≡ said l → s ≡ Said.Call c → acted_seen a ≡ acts w c
+pub tell_call : (w : World) (l text : List ℕ) (s : Result Call Unsaid) (c : Call) (a : After Answer) → s ≡ said l → s ≡ Ok c → acted_seen a ≡ acts w c
     → text ≡ line_of a.answer → ◌≡◌ {A = Tells} (record { world = (acted_seen a).world; text = text }) (tells w l)
 unfolding tells
 tell_call w l text s c a es ec ea et =
     rw et (ap (λ (r : Acts). record { world = r.world; text = line_of r.answer }) ea)
     ∙ sym (ap (tells_of w) (sym es ∙ ec))
 
-pub tell_garbled : (w : World) (l text : List ℕ) (s : Said) (a : Answer) → s ≡ said l → s ≡ Said.Garbled → a ≡ bare 7 → text ≡ line_of a
-    → ◌≡◌ {A = Tells} (record { world = w; text = text }) (tells w l)
+pub tell_none : (w : World) (l text : List ℕ) (s : Result Call Unsaid) (e : Unsaid) (n : ℕ) (a : Answer) → s ≡ said l → s ≡ Err e → n ≡ number_in e
+    → a ≡ bare n → text ≡ line_of a → ◌≡◌ {A = Tells} (record { world = w; text = text }) (tells w l)
 unfolding tells
-tell_garbled w l text s a es ec ea et = rw (et, ea) (sym (ap (tells_of w) (sym es ∙ ec)))
-
-pub tell_unknown : (w : World) (l text : List ℕ) (s : Said) (a : Answer) → s ≡ said l → s ≡ Said.Unknown → a ≡ bare 8 → text ≡ line_of a
-    → ◌≡◌ {A = Tells} (record { world = w; text = text }) (tells w l)
-unfolding tells
-tell_unknown w l text s a es ec ea et = rw (et, ea) (sym (ap (tells_of w) (sym es ∙ ec)))
+tell_none w l text s e n a es ee en ea et = rw (et, ea, en) (sym (ap (tells_of w) (sym es ∙ ee)))

@@ -1,4 +1,5 @@
 -- Demand 3 holds of every sequence of lines: each line is one of our calls on the four containers, or none.
+use Rattle.std.specs.Prelude.{Result, Ok, Err}
 use mathlib.Core.Path.{◌≡◌, refl, sym, ap, ◌∙◌}
 use mathlib.Core.Bool.{true, false}
 use mathlib.Core.List.{List, [], ◌∷◌, ◌++◌}
@@ -18,7 +19,8 @@ use Rattle.table.proofs.Theorems.StaysValid.{stays_valid, first_stays_valid, sec
 use Rattle.tray_lines.specs.declared.lines.RingOp.{RingOp}
 use Rattle.tray_lines.specs.declared.lines.VectorOp.{VectorOp}
 use Rattle.tray_lines.specs.declared.lines.Call.{Call}
-use Rattle.tray_lines.specs.declared.lines.Said.{Said}
+use Rattle.tray_lines.specs.declared.lines.Unsaid.{Unsaid}
+use Rattle.tray_lines.specs.declared.lines.Which.TheVariants.{First, Second}
 use Rattle.tray_lines.specs.Lines.{said}
 use Rattle.tray_lines.specs.Acts.{Act, one, two, has_act, ring_act, vector_act, act_does, event_at, event, Acts, acts, free, begun}
 use Rattle.tray_lines.specs.Answers.{tells_of, tells}
@@ -89,7 +91,7 @@ record Goes (w : World) (c : Call) : Type 0 where
 
 goes : (t0 t1 t2 t3 : Tray) → Valids t0 t1 t2 t3 → (c : Call) → Goes (four t0 t1 t2 t3) c
 unfolding acts
-goes t0 t1 t2 t3 v (Call.Ring false op) = record {
+goes t0 t1 t2 t3 v (Call.Ring First op) = record {
   ours = ours_at (four t0 t1 t2 t3) 0 1 ring (omega arith) (omega arith) (λ e. omega arith) refl refl (ring_act op) (ring_has op);
   still =
       let o : Outcome2 = act_does ring (ring_act op) t0 t1 in
@@ -103,7 +105,7 @@ goes t0 t1 t2 t3 v (Call.Ring false op) = record {
         valid = (ok.0, ok.1, v.2, v.3);
       };
 }
-goes t0 t1 t2 t3 v (Call.Ring true op) = record {
+goes t0 t1 t2 t3 v (Call.Ring Second op) = record {
   ours = ours_at (four t0 t1 t2 t3) 1 0 ring (omega arith) (omega arith) (λ e. omega arith) refl refl (ring_act op) (ring_has op);
   still =
       let o : Outcome2 = act_does ring (ring_act op) t1 t0 in
@@ -117,7 +119,7 @@ goes t0 t1 t2 t3 v (Call.Ring true op) = record {
         valid = (ok.1, ok.0, v.2, v.3);
       };
 }
-goes t0 t1 t2 t3 v (Call.Vector false op) = record {
+goes t0 t1 t2 t3 v (Call.Vector First op) = record {
   ours = ours_at (four t0 t1 t2 t3) 2 3 vector (omega arith) (omega arith) (λ e. omega arith) refl refl (vector_act op) (vector_has op);
   still =
       let o : Outcome2 = act_does vector (vector_act op) t2 t3 in
@@ -131,7 +133,7 @@ goes t0 t1 t2 t3 v (Call.Vector false op) = record {
         valid = (v.0, v.1, ok.0, ok.1);
       };
 }
-goes t0 t1 t2 t3 v (Call.Vector true op) = record {
+goes t0 t1 t2 t3 v (Call.Vector Second op) = record {
   ours = ours_at (four t0 t1 t2 t3) 3 2 vector (omega arith) (omega arith) (λ e. omega arith) refl refl (vector_act op) (vector_has op);
   still =
       let o : Outcome2 = act_does vector (vector_act op) t3 t2 in
@@ -158,14 +160,13 @@ unfolding acts tells
 leads w [] f = record { ours = tt; there = refl; still = f }
 leads w (l ∷ ls) f = go (said l) (λ g. leads (tells w l).world ls g)
   where
-    go : (s : Said) → (Fours (tells_of w s).world → Leads (tells_of w s).world (calls (tells_of w s).world ls) (after (tells_of w s).world ls))
+    go : (s : Result Call Unsaid) → (Fours (tells_of w s).world → Leads (tells_of w s).world (calls (tells_of w s).world ls) (after (tells_of w s).world ls))
         → Leads w (events_of w s ++ calls (tells_of w s).world ls) (after (tells_of w s).world ls)
-    go (Said.Call c) rest =
+    go (Ok c) rest =
         let g : Goes w c = rw f.is (goes f.t0 f.t1 f.t2 f.t3 f.valid c) in
         let r = rest g.still in
         record { ours = (g.ours, r.ours); there = r.there; still = r.still }
-    go Said.Garbled rest = rest f
-    go Said.Unknown rest = rest f
+    go (Err e) rest = rest f
 
 begun_four : Fours begun
 unfolding begun

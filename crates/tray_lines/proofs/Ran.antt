@@ -3,7 +3,7 @@
 use mathlib.Core.Path.{◌≡◌, refl, sym, ap, ◌∙◌}
 use mathlib.Core.List.{List, [], ◌∷◌, ◌++◌}
 use Prim.Native.Nat.{ℕ, ◌+◌}
-use lib.ListN.{length, take, drop, replicate, take-append-drop}
+use lib.ListN.{length, take, drop, take-append-drop}
 use lib.Seq.{take-append_seam}
 use contract.Lifetimes.{Lfts}
 use denote.Triple.Clauses.{AtExit}
@@ -16,9 +16,9 @@ use Rattle.tray_lines.specs.declared.feeds.State.{State}
 use Rattle.tray_lines.specs.Seen.{world}
 use Rattle.tray_lines.specs.Acts.{begun}
 use Rattle.tray_lines.specs.Answers.{Tells, tells}
-use Rattle.tray_lines.specs.Feeds.{Midway, Feeds, Kept, fresh, feeds, keeping, ends, midway, Ends, ends_into, ended_seen, Fills, room, fills}
+use Rattle.tray_lines.specs.Feeds.{Midway, Feeds, Kept, fresh, feeds, keeping, ends, midway, Ends, ends_into, ended_seen, written, Fills, room, fills}
 use Rattle.tray_lines.specs.Runs.{lines_of, finished, answered, after, happened}
-use Rattle.tray_lines.proofs.Fed.{feeds_fit, ends_few}
+use Rattle.tray_lines.proofs.Fed.{feeds_fit, written_is}
 use Rattle.tray_lines.proofs.Blocks.{then, feeds_join, run_so_far, run_answers}
 use Rattle.tray_lines.proofs.Balance.{lines_model, lines_balance}
 use Rattle.tray_lines.specs.contracts.acts.start as start·fn
@@ -128,11 +128,8 @@ module _ (s : State) (input : List ℕ) (there : Stands s input) where
     finish : ◌≡◌ {A = Ends} (ended_seen r) (ends_into (ends keeping (feeds keeping (fresh keeping begun) input).state))
     finish = learnt ∙ ap (λ (u : State). ends_into (ends keeping (midway u))) same ∙ ap (λ (m : Midway Kept). ends_into (ends keeping m)) there
 
-    last_answer : take r.count r.text ≡ (ends keeping (feeds keeping (fresh keeping begun) input).state).text
-    last_answer =
-        let end : Tells = ends keeping (feeds keeping (fresh keeping begun) input).state in
-        ap (λ (x : Ends). take x.count x.text) finish
-        ∙ put_read (replicate 27 0) end.text (ends_few (feeds keeping (fresh keeping begun) input).state)
+    last_answer : written r.answer ≡ (ends keeping (feeds keeping (fresh keeping begun) input).state).text
+    last_answer = ap (λ (x : Ends). written x.answer) finish ∙ written_is (ends keeping (feeds keeping (fresh keeping begun) input).state).text
 
     pub world_at_end : world r.trays ≡ after begun (lines_of [] input)
     world_at_end = ap (λ (x : Ends). x.world) finish ∙ (run_answers begun input).1
@@ -155,5 +152,5 @@ module _ {s : State} {input out : List ℕ} (fed : Fed s input out) where
   answers_so_far = sym fed_out ∙ (run_so_far begun input).0
 
   pub tray_answers : (κs : Lfts 0) (a : ArgsD ended·fn.signature κs) (r : ResD ended·fn.signature κs) (e : AtExit ended·fn.ended κs)
-      → a.0 ≡ s → ended·reads.Learnt κs a r e → out ++ take r.count r.text ≡ answered begun (lines_of [] input)
+      → a.0 ≡ s → ended·reads.Learnt κs a r e → out ++ written r.answer ≡ answered begun (lines_of [] input)
   tray_answers κs a r e same learnt = cc (last_answer s input (fed_there fed) κs a r e same learnt, fed_out, (run_answers begun input).0)

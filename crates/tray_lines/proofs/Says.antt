@@ -1,40 +1,42 @@
--- What a line says, from its fields: a number that stands in no table is unknown, and a value has 32 bits.
-use mathlib.Core.Path.{◌≡◌, refl, sym, ◌∙◌}
+-- What a line says, from its fields: a number that stands in no table is unknown, and a line of 16 digits says a call or none.
+use mathlib.Core.Path.{◌≡◌, refl, sym, ap, ◌∙◌}
 use mathlib.Core.Bool.{Bool, true, false}
 use mathlib.Core.List.{List}
-use Prim.Native.Nat.{ℕ, ◌^◌, ◌<◌}
+use Prim.Native.Nat.{ℕ}
 use native.Mathlib.Omega.{arith}
 use borrow.Author.Tests.{eq-eqb, ne_eqb}
-use lib.ListN.{length, take, drop, length-take, length-drop}
+use lib.ListN.{length, take, drop}
 use Rattle.digits.specs.Hex.{are_digits, number_in}
 use Rattle.digits.specs.Rows.{under}
 use Rattle.digits.proofs.Rows.{Apart, no_row}
 use Rattle.digits.proofs.Fields.{field_says}
-use Rattle.tray_lines.specs.declared.lines.Said.{Said}
-use Rattle.tray_lines.specs.Lines.{call_says, said}
+use Rattle.std.specs.Prelude.{Result, Ok, Err}
+use Rattle.tray_lines.specs.declared.lines.Call.{Call}
+use Rattle.tray_lines.specs.declared.lines.Unsaid.{Unsaid}
+use Rattle.tray_lines.specs.declared.lines.Unsaid.TheVariants.{Garbled, Unknown}
+use Rattle.tray_lines.specs.Lines.{calls, call_says, said}
 
 -- a number that stands in no row, once every row was tried
-pub unknown : (n : ℕ) (rows : List (ℕ × Said)) (before : Type 0) → Apart n rows before → Said.Unknown ≡ under n rows Said.Unknown
-unknown n rows before apart = no_row n rows Said.Unknown Said.Unknown before apart refl
+pub unknown : {A : Type 0} (n : ℕ) (rows : List (ℕ × Result A Unsaid)) (before : Type 0) → Apart n rows before → Err Unknown ≡ under n rows (Err Unknown)
+unknown n rows before apart = no_row n rows (Err Unknown) (Err Unknown) before apart refl
 
--- the value of a line has 32 bits
-pub value_fits : (l : List ℕ) (x : ℕ) → length l ≡ 16 → x < 16 ^ length (take 8 (drop 8 l)) → x < 2 ^ 32
-value_fits l x e h =
-    let long : length (take 8 (drop 8 l)) ≡ 8 = simp (length-take, length-drop) (omega arith) in
-    let same : ◌≡◌ {A = ℕ} (16 ^ 8) (2 ^ 32) = refl in
-    let low : x < 16 ^ 8 = rw long at h in
-    omega arith
+-- an operation that is said is a call, and one that isn't is none
+pub said_ok : {A : Type 0} (call : A → Call) (s r : Result A Unsaid) (op : A) → r ≡ s → r ≡ Ok op → Ok (call op) ≡ calls call s
+said_ok call s r op e o = ap (calls call) (sym o ∙ e)
+
+pub said_err : {A : Type 0} (call : A → Call) (s r : Result A Unsaid) (e : Unsaid) → r ≡ s → r ≡ Err e → Err e ≡ calls call s
+said_err call s r e es o = ap (calls call) (sym o ∙ es)
 
 -- what a line says once its length and digits are seen
-pub says_garbled : (l : List ℕ) → (length l ≡ 16 → ⊥) → Said.Garbled ≡ said l
+pub says_garbled : (l : List ℕ) → (length l ≡ 16 → ⊥) → Err Garbled ≡ said l
 unfolding said
 says_garbled l ne = rw (ne_eqb (length l) 16 ne)
 
-pub says_no_digits : (l : List ℕ) (b : Bool) → length l ≡ 16 → b ≡ are_digits l → b ≡ false → Said.Garbled ≡ said l
+pub says_no_digits : (l : List ℕ) (b : Bool) → length l ≡ 16 → b ≡ are_digits l → b ≡ false → Err Garbled ≡ said l
 unfolding said
 says_no_digits l b e d f = let no : are_digits l ≡ false = sym d ∙ f in rw (eq-eqb (length l) 16 e, no)
 
-pub says_call : (l : List ℕ) (b : Bool) (op c i x : ℕ) (s : Said) → length l ≡ 16 → b ≡ are_digits l → b ≡ true
+pub says_call : (l : List ℕ) (b : Bool) (op c i x : ℕ) (s : Result Call Unsaid) → length l ≡ 16 → b ≡ are_digits l → b ≡ true
     → op ≡ number_in (take 2 (drop 0 l)) → c ≡ number_in (take 2 (drop 2 l)) → i ≡ number_in (take 4 (drop 4 l)) → x ≡ number_in (take 8 (drop 8 l))
     → s ≡ call_says op c i x → s ≡ said l
 unfolding said

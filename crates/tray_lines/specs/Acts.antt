@@ -1,5 +1,5 @@
 -- What a call of `tray` is in the table: a call on one container or on two, the event that it makes, and what is answered of it.
-use Rattle.std.specs.Prelude.{ℕ, Bool, cond, List, [], ◌∷◌, replicate}
+use Rattle.std.specs.Prelude.{ℕ, Bool, List, [], ◌∷◌, replicate}
 use Rattle.slots.specs.Layout.{Kind, ring, vector}
 use Rattle.table.specs.Tray.{Tray}
 use Rattle.table.specs.Calls as table
@@ -10,6 +10,8 @@ use Rattle.table.specs.Reported.{no_slot, reported}
 use Rattle.table.specs.World.{Container, World, at, Event, arrived, called, called_two, make, on, on_two, step, run}
 use Rattle.tray_lines.specs.declared.lines.RingOp.{RingOp}
 use Rattle.tray_lines.specs.declared.lines.VectorOp.{VectorOp}
+use Rattle.tray_lines.specs.declared.lines.Which.{Which}
+use Rattle.tray_lines.specs.declared.lines.Which.TheVariants.{First, Second}
 use Rattle.tray_lines.specs.declared.lines.Call.{Call}
 use Rattle.tray_lines.specs.declared.acts.Answer.{Answer}
 
@@ -81,18 +83,23 @@ abbrev pub act_does : Kind → Act → (t t2 : Tray) → Outcome2
 act_does k (one call) t t2 = beside (does k call t) t2
 act_does k (two call) t t2 = does2 k k call t t2
 
+-- the first or the second of two
+abbrev pub of_two : {A : Type 0} → Which → (first second : A) → A
+of_two First first second = first
+of_two Second first second = second
+
 -- the container that a call names, the other of its kind, its kind, and what it does
 abbrev pub named : Call → ℕ
-named (Call.Ring second op) = cond second 1 0
-named (Call.Vector second op) = cond second 3 2
+named (Call.Ring which op) = of_two which 0 1
+named (Call.Vector which op) = of_two which 2 3
 
 abbrev pub other : Call → ℕ
-other (Call.Ring second op) = cond second 0 1
-other (Call.Vector second op) = cond second 2 3
+other (Call.Ring which op) = of_two which 1 0
+other (Call.Vector which op) = of_two which 3 2
 
 abbrev pub act_of : Call → Act
-act_of (Call.Ring second op) = ring_act op
-act_of (Call.Vector second op) = vector_act op
+act_of (Call.Ring which op) = ring_act op
+act_of (Call.Vector which op) = vector_act op
 
 -- the event that it makes on containers i and j
 abbrev pub event_at : World → (i j : ℕ) → Act → Event

@@ -1,14 +1,15 @@
 -- The line that is answered: number, value, moves, head, length, slot as 1, 4, 2, 2, 2, 2 bytes, in hexadecimal digits, ended by LF.
-use Rattle.std.specs.Prelude.{ℕ, List, [], ◌∷◌, ◌++◌}
+use Rattle.std.specs.Prelude.{ℕ, List, [], ◌∷◌, ◌++◌, Result, Ok, Err}
 use Rattle.digits.specs.Hex.{hex, lf}
 use Rattle.table.specs.Reported.{no_slot}
 use Rattle.table.specs.World.{World}
-use Rattle.tray_lines.specs.declared.lines.Said.{Said}
+use Rattle.tray_lines.specs.declared.lines.Call.{Call}
+use Rattle.tray_lines.specs.declared.lines.Unsaid.{Unsaid}
 use Rattle.tray_lines.specs.declared.acts.Answer.{Answer}
-use Rattle.tray_lines.specs.Lines.{said}
+use Rattle.tray_lines.specs.Lines.{number_in, said}
 use Rattle.tray_lines.specs.Acts.{acts}
 use Rattle.tray_lines.specs.Seen
-use Rattle.tray_lines.specs.declared.answers.Told.{Told}
+use Rattle.tray_lines.specs.declared.acts.After.{After}
 
 unfoldable pub line_of : Answer → List ℕ
 line_of a =
@@ -23,14 +24,13 @@ pub record Tells : Type 0 where
   pub world : World
   pub text : List ℕ
 
-abbrev pub tells_of : World → Said → Tells
-tells_of w (Said.Call c) = record { world = (acts w c).world; text = line_of (acts w c).answer }
-tells_of w Said.Garbled = record { world = w; text = line_of (bare 7) }
-tells_of w Said.Unknown = record { world = w; text = line_of (bare 8) }
+abbrev pub tells_of : World → Result Call Unsaid → Tells
+tells_of w (Ok c) = record { world = (acts w c).world; text = line_of (acts w c).answer }
+tells_of w (Err e) = record { world = w; text = line_of (bare (number_in e)) }
 
 unfoldable pub tells : World → (line : List ℕ) → Tells
 tells w line = tells_of w (said line)
 
 -- how the code's answer is read
-abbrev pub told_seen : Told → Tells
-told_seen t = record { world = Seen.world t.trays; text = t.text }
+abbrev pub told_seen : After (List ℕ) → Tells
+told_seen t = record { world = Seen.world t.trays; text = t.answer }

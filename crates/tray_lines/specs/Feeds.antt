@@ -1,6 +1,7 @@
 -- What a program that is fed bytes says: each LF ends a line and gives its answer, and at the end a line begun counts if it isn't empty. Lines may
 -- have any length; the same is then said of a reader that keeps no more than 17 bytes of a line.
-use Rattle.std.specs.Prelude.{ℕ, ◌+◌, ◌/◌, Bool, true, false, cond, List, [], ◌∷◌, ◌++◌, length, take, set, replicate, eqb, ltb}
+use Rattle.std.specs.Prelude.{ℕ, ◌+◌, ◌/◌, Bool, true, false, cond, List, [], ◌∷◌, ◌++◌, length, take, set, replicate, eqb, ltb, Option, None, Some}
+use Prim.Native.Nat.{min}
 use Rattle.digits.specs.Hex.{lf}
 use Rattle.digits.specs.Put.{put}
 use Rattle.table.specs.World.{World}
@@ -9,7 +10,7 @@ use Rattle.tray_lines.specs.Seen
 use Rattle.tray_lines.specs.declared.feeds.State.{State}
 use Rattle.tray_lines.specs.declared.feeds.Step.{Step}
 use Rattle.tray_lines.specs.declared.feeds.Fed.{Fed}
-use Rattle.tray_lines.specs.declared.feeds.Finish.{Finish}
+use Rattle.tray_lines.specs.declared.acts.After.{After}
 
 -- a way of keeping a line begun: none of it, one byte more, whether it is empty, and its bytes
 pub record Reader (L : Type 0) : Type 0 where
@@ -81,17 +82,21 @@ ends r s = cond (r.empty s.line) (record { world = s.world; text = [] }) (answer
 abbrev pub midway : State → Midway Kept
 midway s = record { world = Seen.world s.trays; line = record { bytes = s.line; count = s.count } }
 
--- the end: an answer, or none, at the start of a text of 27 bytes that was 0
+-- the end: an answer, or none
 pub record Ends : Type 0 where
   pub world : World
-  pub text : List ℕ
-  pub count : ℕ
+  pub answer : Option (List ℕ)
 
 abbrev pub ends_into : Tells → Ends
-ends_into t = record { world = t.world; text = put (replicate 27 0) 0 t.text; count = length t.text }
+ends_into t = record { world = t.world; answer = cond (is_empty t.text) None (Some t.text) }
 
-abbrev pub ended_seen : Finish → Ends
-ended_seen e = record { world = Seen.world e.trays; text = e.text; count = e.count }
+abbrev pub ended_seen : After (Option (List ℕ)) → Ends
+ended_seen e = record { world = Seen.world e.trays; answer = e.answer }
+
+-- the bytes of an answer, or of none
+abbrev pub written : Option (List ℕ) → List ℕ
+written None = []
+written (Some text) = text
 
 -- a run of bytes fed: the state, how many bytes were taken, and all of the lent text with the count of bytes put at its start
 pub record Fills : Type 0 where
@@ -110,7 +115,7 @@ fills_all s input out = record {
 
 -- as many bytes are taken as the text has room for, 27 for each
 abbrev pub room : (input out : List ℕ) → ℕ
-room input out = cond (ltb (length out / 27) (length input)) (length out / 27) (length input)
+room input out = min (length out / 27) (length input)
 
 unfoldable pub fills : Midway Kept → (input out : List ℕ) → Fills
 fills s input out = fills_all s (take (room input out) input) out

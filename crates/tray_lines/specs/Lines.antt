@@ -1,11 +1,18 @@
 -- What a line of `tray` says: a call, or why it is none.
-use Rattle.std.specs.Prelude.{ℕ, Bool, true, false, cond, ◌&&◌, List, [], ◌∷◌, length, take, drop, eqb}
+use Rattle.std.specs.Prelude.{ℕ, Bool, cond, ◌&&◌, List, [], ◌∷◌, length, take, drop, eqb, Result, Ok, Err}
 use Rattle.digits.specs.Hex.{are_digits, says}
 use Rattle.digits.specs.Rows.{under}
 use Rattle.tray_lines.specs.declared.lines.RingOp.{RingOp}
 use Rattle.tray_lines.specs.declared.lines.VectorOp.{VectorOp}
 use Rattle.tray_lines.specs.declared.lines.Call.{Call}
-use Rattle.tray_lines.specs.declared.lines.Said.{Said}
+use Rattle.tray_lines.specs.declared.lines.Unsaid.{Unsaid}
+use Rattle.tray_lines.specs.declared.lines.Unsaid.TheVariants.{Garbled, Unknown}
+use Rattle.tray_lines.specs.declared.lines.Which.TheVariants.{First, Second}
+
+-- why a line is no call: 7 and 8
+abbrev pub number_in : Unsaid → ℕ
+number_in Garbled = 7
+number_in Unknown = 8
 
 -- 16 lower-case hexadecimal digits
 abbrev pub is_line : List ℕ → Bool
@@ -61,24 +68,34 @@ vector_ops i x =
     ∷ (14, VectorOp.Write i x)
     ∷ []
 
--- the calls that a kind's operations are, by the same numbers
-abbrev pub calls : {A : Type 0} → (A → Call) → List (ℕ × A) → List (ℕ × Said)
-calls call [] = []
-calls call (row ∷ rest) = (row.0, Said.Call (call row.1)) ∷ calls call rest
+-- those that are said, by the same numbers
+abbrev pub sure : {A : Type 0} → List (ℕ × A) → List (ℕ × Result A Unsaid)
+sure [] = []
+sure (row ∷ rest) = (row.0, Ok row.1) ∷ sure rest
 
--- Rings 0 and 1, vectors 2 and 3; the flag says whether it is the second of its kind. A number that stands in no row is unknown.
-abbrev pub ring_says : (second : Bool) (op i x : ℕ) → Said
-ring_says second op i x = under op (calls (Call.Ring second) (ring_ops i x)) Said.Unknown
+-- A number that stands in no row is unknown.
+abbrev pub ring_says : (op i x : ℕ) → Result RingOp Unsaid
+ring_says op i x = under op (sure (ring_ops i x)) (Err Unknown)
 
-abbrev pub vector_says : (second : Bool) (op i x : ℕ) → Said
-vector_says second op i x = under op (calls (Call.Vector second) (vector_ops i x)) Said.Unknown
+abbrev pub vector_says : (op i x : ℕ) → Result VectorOp Unsaid
+vector_says op i x = under op (sure (vector_ops i x)) (Err Unknown)
 
-unfoldable pub call_says : (op container i x : ℕ) → Said
+-- the call that an operation is on a container
+abbrev pub calls : {A : Type 0} → (A → Call) → Result A Unsaid → Result Call Unsaid
+calls call (Ok op) = Ok (call op)
+calls call (Err e) = Err e
+
+-- Rings 0 and 1, vectors 2 and 3.
+unfoldable pub call_says : (op container i x : ℕ) → Result Call Unsaid
 call_says op container i x =
     under container
-    ((0, ring_says false op i x) ∷ (1, ring_says true op i x) ∷ (2, vector_says false op i x) ∷ (3, vector_says true op i x) ∷ [])
-    Said.Unknown
+    ((0, calls (Call.Ring First) (ring_says op i x))
+    ∷ (1, calls (Call.Ring Second) (ring_says op i x))
+    ∷ (2, calls (Call.Vector First) (vector_says op i x))
+    ∷ (3, calls (Call.Vector Second) (vector_says op i x))
+    ∷ [])
+    (Err Unknown)
 
 -- garbled before unknown
-unfoldable pub said : (l : List ℕ) → Said
-said l = cond (is_line l) (call_says (operation l) (container l) (position l) (value l)) Said.Garbled
+unfoldable pub said : (l : List ℕ) → Result Call Unsaid
+said l = cond (is_line l) (call_says (operation l) (container l) (position l) (value l)) (Err Garbled)

@@ -1,8 +1,9 @@
 -- A run of the program: the lines of its input, the events that they make, what is answered, and the world afterwards.
-use Rattle.std.specs.Prelude.{ℕ, cond, List, [], ◌∷◌, ◌++◌, eqb}
+use Rattle.std.specs.Prelude.{ℕ, cond, List, [], ◌∷◌, ◌++◌, eqb, Result, Ok, Err}
 use Rattle.digits.specs.Hex.{lf}
 use Rattle.table.specs.World.{World, Event}
-use Rattle.tray_lines.specs.declared.lines.Said.{Said}
+use Rattle.tray_lines.specs.declared.lines.Call.{Call}
+use Rattle.tray_lines.specs.declared.lines.Unsaid.{Unsaid}
 use Rattle.tray_lines.specs.Lines.{said}
 use Rattle.tray_lines.specs.Acts.{event, makings, begun}
 use Rattle.tray_lines.specs.Answers.{tells}
@@ -28,10 +29,9 @@ after w [] = w
 after w (l ∷ ls) = after (tells w l).world ls
 
 -- the events of a line and of a sequence of lines: one for each call, and none where a line is refused with 7 or 8
-abbrev pub events_of : World → Said → List Event
-events_of w (Said.Call c) = event w c ∷ []
-events_of w Said.Garbled = []
-events_of w Said.Unknown = []
+abbrev pub events_of : World → Result Call Unsaid → List Event
+events_of w (Ok c) = event w c ∷ []
+events_of w (Err e) = []
 
 abbrev pub calls : World → List (List ℕ) → List Event
 calls w [] = []

@@ -3,16 +3,9 @@ ghost use Rattle.std.specs.Prelude.{◌≡◌};
 ghost use Rattle.tray_lines.specs.Seen.{world};
 ghost use Rattle.tray_lines.specs.Answers.{bare, line_of, tells, told_seen};
 
-use crate::acts::{Answer, Trays};
-use crate::lines::Said;
+use crate::acts::{After, Answer, Trays};
 
-// The containers after a line, and the line that is answered, with its LF.
-#[derive(Clone, Copy)]
-pub struct Told {
-    pub trays: Trays,
-    pub text: [u8; 27],
-}
-
+// What a line that is no call is answered: its number, and nothing else.
 fn bare(number: u8) -> Answer
     ensures { result ≡ bare number }
 {
@@ -27,6 +20,7 @@ fn bare(number: u8) -> Answer
 }
 
 // Number, value, moves, head, length and slot, and the line's end.
+#[tactic(auto, using(crate::proofs::Answered::line_put))]
 fn line_of(a: Answer) -> [u8; 27]
     ensures { result ≡ line_of a }
 {
@@ -42,26 +36,20 @@ fn line_of(a: Answer) -> [u8; 27]
 }
 
 // The whole meaning of a line: the containers after it, and what is answered.
-pub fn tell(trays: Trays, line: &[u8]) -> Told
+pub fn tell(trays: Trays, line: &[u8]) -> After<[u8; 27]>
     ensures { told_seen result ≡ tells (world trays) line.now }
 {
     match crate::lines::parse(line) {
-        Said::Call(c) => {
-            let a = crate::acts::act(trays, c);
-            let after = a.trays;
-            let answer = a.answer;
-            Told {
-                trays: after,
-                text: line_of(answer),
+        Ok(call) => {
+            let done = crate::acts::act(trays, call);
+            After {
+                trays: done.trays,
+                answer: line_of(done.answer),
             }
         }
-        Said::Garbled => Told {
+        Err(e) => After {
             trays,
-            text: line_of(bare(7)),
-        },
-        Said::Unknown => Told {
-            trays,
-            text: line_of(bare(8)),
+            answer: line_of(bare(u8::from(e))),
         },
     }
 }

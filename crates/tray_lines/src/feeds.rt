@@ -5,10 +5,10 @@ ghost use Rattle.tray_lines.specs.Seen.{world};
 ghost use Rattle.tray_lines.specs.Answers.{tells, told_seen};
 ghost use Rattle.tray_lines.specs.Feeds.{fresh, takes, keeping, ends, midway, ends_into, ended_seen, fills_all, fills, fed_seen, puts, step_seen};
 
-use crate::acts::Trays;
-use crate::answers::Told;
+use crate::acts::{After, Trays};
 
 // Where the program stands between two bytes: the containers, and the first 17 bytes of the line begun, which tell that it is too long.
+// There is no heap here, so they are an array with a count.
 #[derive(Clone, Copy)]
 pub struct State {
     pub trays: Trays,
@@ -31,14 +31,6 @@ pub struct Fed {
     pub count: usize,
 }
 
-// After the last byte: how many bytes of an answer stand at the start of the text.
-#[derive(Clone, Copy)]
-pub struct Finish {
-    pub trays: Trays,
-    pub text: [u8; 27],
-    pub count: usize,
-}
-
 // Before the first byte of a line.
 pub fn fresh(trays: Trays) -> State
     ensures { midway result ≡ fresh keeping (world trays) }
@@ -55,63 +47,48 @@ fn keep(s: State, b: u8) -> State
     ensures { midway result ≡ (takes keeping (midway s) b).state }
 {
     let n = s.count;
+    let mut kept = s;
     if n < 17 {
-        let trays = s.trays;
-        let mut line = s.line;
-        line[n] = b;
-        return State {
-            trays,
-            line,
-            count: n + 1,
-        };
+        kept.line[n] = b;
+        kept.count = n + 1;
     }
-    s
+    kept
 }
 
 // The answer to the bytes kept of a line.
-fn answer_of(trays: Trays, line: &[u8], count: usize) -> Told
-    ensures { told_seen result ≡ tells (world trays) (take count line.now) }
+fn answer_of(s: State) -> After<[u8; 27]>
+    ensures { told_seen result ≡ tells (world s.trays) (take s.count s.line) }
 {
-    if count < line.len() {
-        return crate::answers::tell(trays, &line[0..count]);
-    }
-    crate::answers::tell(trays, line)
+    crate::answers::tell(s.trays, &s.line[..s.count.min(17)])
 }
 
 // The end of the input: a line begun counts if it isn't empty.
-pub fn ended(s: State) -> Finish
+#[tactic(auto, using(crate::proofs::Fed::none_begun, crate::proofs::Fed::some_begun))]
+pub fn ended(s: State) -> After<Option<[u8; 27]>>
     ensures { ended_seen result ≡ ends_into (ends keeping (midway s)) }
 {
-    let trays = s.trays;
-    let line = s.line;
     let n = s.count;
     if n == 0 {
-        return Finish {
-            trays,
-            text: [0u8; 27],
-            count: 0,
+        return After {
+            trays: s.trays,
+            answer: None,
         };
     }
-    let t = answer_of(trays, &line, n);
-    let after = t.trays;
-    let text = t.text;
-    Finish {
-        trays: after,
-        text,
-        count: 27,
+    let told = answer_of(s);
+    After {
+        trays: told.trays,
+        answer: Some(told.answer),
     }
 }
 
 // An answer, from a place of the text on.
+// Here and below a text and a place, as in `words`: the promise is of the whole text.
+#[tactic(auto, using(crate::proofs::Fed::lay_put))]
 fn lay(out: &mut [u8], at: usize, text: [u8; 27])
     requires { at + 27 ≤ length out.old }
     ensures { out.new ≡ put out.old at text }
 {
-    let mut i = 0;
-    while i < 27 {
-        out[at + i] = text[i];
-        i += 1;
-    }
+    out[at..at + 27].copy_from_slice(&text);
 }
 
 fn one(s: State, b: u8, out: &mut [u8], at: usize) -> Step
@@ -119,16 +96,11 @@ fn one(s: State, b: u8, out: &mut [u8], at: usize) -> Step
     ensures { step_seen result out.new ≡ puts (takes keeping (midway s) b) out.old at }
 {
     if b == 10 {
-        let end = at + 27;
-        let trays = s.trays;
-        let line = s.line;
-        let t = answer_of(trays, &line, s.count);
-        let after = t.trays;
-        let text = t.text;
-        lay(out, at, text);
+        let told = answer_of(s);
+        lay(out, at, told.answer);
         return Step {
-            state: fresh(after),
-            at: end,
+            state: fresh(told.trays),
+            at: at + 27,
         };
     }
     Step {
@@ -143,27 +115,23 @@ fn feed_all(state: State, input: &[u8], out: &mut [u8]) -> Fed
 {
     let mut s = state;
     let mut at = 0;
-    let mut i = 0;
-    while i < input.len() {
-        let step = one(s, input[i], out, at);
+    for b in input {
+        let step = one(s, *b, out, at);
         s = step.state;
         at = step.at;
-        i += 1;
     }
     Fed {
         state: s,
-        took: i,
+        took: input.len(),
         count: at,
     }
 }
 
 // As many bytes are taken as the text has room for, 27 for each.
+#[tactic(auto, using(crate::proofs::Fed::feed_room))]
 pub fn feed(state: State, input: &[u8], out: &mut [u8]) -> Fed
     ensures { fed_seen result out.new ≡ fills (midway state) input.now out.old }
 {
     let most = out.len() / 27;
-    if most < input.len() {
-        return feed_all(state, &input[0..most], out);
-    }
-    feed_all(state, input, out)
+    feed_all(state, &input[..most.min(input.len())], out)
 }

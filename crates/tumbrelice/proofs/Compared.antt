@@ -15,15 +15,11 @@ use Rattle.table.proofs.Laws.Done.{Homed, homed}
 use Rattle.table.proofs.Laws.Totalling.{first_same, second_same}
 use Rattle.ring.specs.declared.Ring.{Ring}
 use Rattle.vector.specs.declared.Vector.{Vector}
-use Rattle.pairs.specs.declared.rings.Both as of_rings
-use Rattle.pairs.specs.declared.vectors.Both as of_vectors
-use Rattle.pairs.specs.declared.mixed.Both as of_mixed
-use Rattle.pairs.specs.Rings as rings
-use Rattle.pairs.specs.Vectors as vectors
-use Rattle.pairs.specs.Mixed as mixed
+use Rattle.table.specs.declared.answers.Both.{Both}
+use Rattle.table.specs.declared.answers.Numbered.{Numbered}
+use Rattle.tumbrelice.proofs.Numbers.{RingsMeet, VectorsMeet, MixedMeet, rings_seen, vectors_seen, mixed_seen}
 use Rattle.tumbrelice.specs.Heard.{Worded, Held, Hears2, ring_in, vector_in, ring_tray, ring_of, vector_of}
-use Rattle.tumbrelice.proofs.Words.{none_fits}
-use Rattle.tumbrelice.proofs.Twos.{number_fits2, moves_fit2, hears2, unmoved}
+use Rattle.tumbrelice.proofs.Twos.{hears2, unmoved}
 
 -- a comparison leaves both
 first_still : (k k2 : Kind) (t t2 : Tray) → (invalid k t ≡ false → Homed k t) → (does2 k k2 same t t2).first ≡ t
@@ -53,33 +49,21 @@ compared k k2 b b2 o word home home2 small small2 none e w =
     (first_same k k2 same b.tray b2.tray _ b.total b2.total refl still small) (second_same k k2 same b.tray b2.tray _ b.total b2.total refl still2 small2)
 
 -- and for each pair of kinds, with the states as numbers
-pub rings_compared : (st ot s z : List ℕ) (r t : Ring) (a : of_rings.Both) (word : ℕ) → r ≡ ring_in st → t ≡ ring_in ot → r.total.sum < 2 ^ 64 → t.total.sum < 2 ^ 64 → rings.Meets same r s t z a s z
+pub rings_compared : (st ot s z : List ℕ) (r t : Ring) (a : Numbered (Both Ring Ring)) (word : ℕ) → r ≡ ring_in st → t ≡ ring_in ot → r.total.sum < 2 ^ 64 → t.total.sum < 2 ^ 64 → RingsMeet same r s t z a s z
     → Worded a.number a.value a.moves a.slot word → Hears2 ring ring same (ring_of st s) (ring_of ot z) word (ring_of st s) (ring_of ot z)
 rings_compared st ot s z r t a word er et small small2 e w =
-    let e' : rings.Meets same (ring_in st) s (ring_in ot) z a s z = rw (er, et) at e in
-    compared ring ring (ring_of st s) (ring_of ot z) (rings.seen2 a s z) word (homed (ring_tray st s)) (homed (ring_tray ot z)) (rw er at small) (rw et at small2) refl e'.row (rw e'.slot at w)
+    let e' : RingsMeet same (ring_in st) s (ring_in ot) z a s z = rw (er, et) at e in
+    compared ring ring (ring_of st s) (ring_of ot z) (rings_seen a s z) word (homed (ring_tray st s)) (homed (ring_tray ot z)) (rw er at small) (rw et at small2) refl e'.row (rw e'.slot at w)
 
-pub vectors_compared : (n m s z : List ℕ) (v t : Vector) (a : of_vectors.Both) (word : ℕ) → v ≡ vector_in n → t ≡ vector_in m → v.total.sum < 2 ^ 64 → t.total.sum < 2 ^ 64 → vectors.Meets same v s t z a s z
+pub vectors_compared : (n m s z : List ℕ) (v t : Vector) (a : Numbered (Both Vector Vector)) (word : ℕ) → v ≡ vector_in n → t ≡ vector_in m → v.total.sum < 2 ^ 64 → t.total.sum < 2 ^ 64 → VectorsMeet same v s t z a s z
     → Worded a.number a.value a.moves a.slot word → Hears2 vector vector same (vector_of n s) (vector_of m z) word (vector_of n s) (vector_of m z)
 vectors_compared n m s z v t a word ev et small small2 e w =
-    let e' : vectors.Meets same (vector_in n) s (vector_in m) z a s z = rw (ev, et) at e in
-    compared vector vector (vector_of n s) (vector_of m z) (vectors.seen2 a s z) word (λ ok. refl) (λ ok. refl) (rw ev at small) (rw et at small2) refl e'.row (rw e'.slot at w)
+    let e' : VectorsMeet same (vector_in n) s (vector_in m) z a s z = rw (ev, et) at e in
+    compared vector vector (vector_of n s) (vector_of m z) (vectors_seen a s z) word (λ ok. refl) (λ ok. refl) (rw ev at small) (rw et at small2) refl e'.row (rw e'.slot at w)
 
-module _ (r : Ring) (t : Vector) (s z : List ℕ) (a : of_mixed.Both) (e : mixed.Meets same r s t z a s z) where
-  pub mixed_number : a.number < 16
-  mixed_number = number_fits2 ring vector same _ _ _ e.row
-
-  pub mixed_moves : a.moves < 4096
-  mixed_moves = moves_fit2 ring vector same _ _ _ e.row
-
-  pub mixed_slot : a.slot < 65536
-  mixed_slot = none_fits a.slot e.slot
-
-pub mixed_compared : (st m s z : List ℕ) (r : Ring) (t : Vector) (a : of_mixed.Both) (word : ℕ) → r ≡ ring_in st → t ≡ vector_in m → r.total.sum < 2 ^ 64 → t.total.sum < 2 ^ 64
-    → mixed.Meets same r s t z a s z → Worded a.number a.value a.moves a.slot word
+pub mixed_compared : (st m s z : List ℕ) (r : Ring) (t : Vector) (a : Numbered (Both Ring Vector)) (word : ℕ) → r ≡ ring_in st → t ≡ vector_in m → r.total.sum < 2 ^ 64 → t.total.sum < 2 ^ 64
+    → MixedMeet same r s t z a s z → Worded a.number a.value a.moves a.slot word
     → Hears2 ring vector same (ring_of st s) (vector_of m z) word (ring_of st s) (vector_of m z)
 mixed_compared st m s z r t a word er et small small2 e w =
-    let e' : mixed.Meets same (ring_in st) s (vector_in m) z a s z = rw (er, et) at e in
-    compared ring vector (ring_of st s) (vector_of m z) (mixed.seen2 a s z) word (homed (ring_tray st s)) (λ ok. refl) (rw er at small) (rw et at small2) refl e'.row (rw e'.slot at w)
-
-pub ruleset mixed_fit = (mixed_number, mixed_moves, mixed_slot)
+    let e' : MixedMeet same (ring_in st) s (vector_in m) z a s z = rw (er, et) at e in
+    compared ring vector (ring_of st s) (vector_of m z) (mixed_seen a s z) word (homed (ring_tray st s)) (λ ok. refl) (rw er at small) (rw et at small2) refl e'.row (rw e'.slot at w)

@@ -1,4 +1,5 @@
 -- The laws of this crate.
+pub mod Numbers
 pub mod Words
 pub mod Staying
 pub mod Twos

@@ -8,7 +8,7 @@ use Rattle.slots.specs.Layout.{Kind}
 use Rattle.slots.proofs.Twice.{Twice}
 use Rattle.table.specs.Calls.{Call2}
 use Rattle.table.specs.Does.{Outcome2}
-use Rattle.record.specs.declared.texts.Told.{Told}
+use Rattle.record.specs.Recorded.{Told}
 use Rattle.record.specs.Unquoted.{Unquoted}
 use Rattle.tumbrelice.specs.Heard.{slot_in, moves_in, heard2, Held, Hears2, ring_of, vector_of}
 use Rattle.tumbrelice.specs.HeardText.{HearsRecord, heard_told}

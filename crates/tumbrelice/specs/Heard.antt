@@ -13,8 +13,6 @@ use Rattle.ring.specs.Seen as rings
 use Rattle.vector.specs.declared.Vector.{Vector}
 use Rattle.vector.specs.Seen as vectors
 use Rattle.cursors.specs.declared.Cursor as code
-use Rattle.cursors.specs.declared.Step.{Step}
-use Rattle.cursors.specs.declared.Step.TheVariants.{Entry, Invalid, Astray, Ended}
 
 -- the value is the word's low 32 bits, the slot the next 16, the moves are the next 12, the number is the high 4
 abbrev pub value_in : ℕ → ℕ
@@ -129,10 +127,3 @@ pub record Worded (m x k n word : ℕ) : Type 0 where
   pub value : value_in word ≡ x
   pub moves : moves_in word ≡ k
   pub slot : slot_in word ≡ n
-
--- where the private function `stepped` leaves a cursor's numbers: a step that is refused leaves them
-abbrev pub stepped_to : Step → List ℕ → List ℕ
-stepped_to (Entry x u) numbers = cursor_out u
-stepped_to (Invalid u) numbers = numbers
-stepped_to (Astray u) numbers = numbers
-stepped_to (Ended u) numbers = numbers

@@ -4,8 +4,7 @@ use Rattle.slots.specs.Layout.{Kind}
 use Rattle.table.specs.Reported.{no_slot}
 use Rattle.stored.specs.Written.{Written, writes}
 use Rattle.stored.specs.Reads.{reads, total_read}
-use Rattle.record.specs.declared.texts.Told.{Told}
-use Rattle.record.specs.Recorded.{told, judges, records, total_starts, total_ends}
+use Rattle.record.specs.Recorded.{Told, told, judges, records, total_starts, total_ends}
 use Rattle.record.specs.Unquoted.{unquoted, unquotes}
 use Rattle.tumbrelice.specs.Heard.{value_in, slot_in, moves_in, number_in, heard, heard2, Held}
 

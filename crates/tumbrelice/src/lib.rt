@@ -22,9 +22,11 @@ ghost use Rattle.tumbrelice.specs.Heard.{Worded, ring_in, ring_out, vector_in, v
 
 use ring::Ring;
 use runs::total::Total;
+use table::answers::Numbered;
 use vector::Vector;
 
-// A ring's state goes in and comes out here, and a vector's below. That a total has 64 bits is said too, since a proof would have to look far for it.
+// A ring's state goes in and comes out here, and a vector's below. They stay two sets of functions, over refusals by number: the C interface has three numbers for
+// the one and two for the other, and tells a refusal by its number. That a total has 64 bits is said too, since a proof would have to look far for it.
 fn ring_in(state: &[u64; 3]) -> Ring
     ensures { (result ≡ ring_in state.now) × (result.total.sum < 2 ^ 64) }
 {
@@ -113,7 +115,7 @@ fn vector_weighs(state: &mut [u64; 2], number: u8, v: Vector)
 }
 
 // Every answer is put together here. One that is done goes a way of its own, so that a call's end is not shared with its refusals.
-fn word(number: u8, value: u32, moves: usize, slot: usize) -> u64
+fn word_of(number: u8, value: u32, moves: usize, slot: usize) -> u64
     requires { (number < 16) × (moves < 4096) × (slot < 65536) }
     ensures { Worded number value moves slot result }
 {
@@ -121,4 +123,12 @@ fn word(number: u8, value: u32, moves: usize, slot: usize) -> u64
         return (moves as u64 * 65536 + slot as u64) * 4294967296 + value as u64;
     }
     ((number as u64 * 4096 + moves as u64) * 65536 + slot as u64) * 4294967296 + value as u64
+}
+
+// The word of an answer as the papers number it, whatever the state beside it.
+fn word<S: Copy>(a: Numbered<S>) -> u64
+    requires { (a.number < 16) × (a.moves < 4096) × (a.slot < 65536) }
+    ensures { Worded a.number a.value a.moves a.slot result }
+{
+    word_of(a.number, a.value, a.moves, a.slot)
 }

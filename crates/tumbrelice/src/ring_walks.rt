@@ -3,16 +3,18 @@ ghost use Rattle.slots.specs.Layout.{ring};
 ghost use Rattle.table.specs.Calls.{iter, into_iter, step_front, step_back, peek_front, peek_back};
 ghost use Rattle.tumbrelice.specs.Heard.{HearsAt, HearsInto, ring_of, vector_of, cursor_of};
 
-use super::walks::{begun, cursor_in, cursor_out, peeked, stepped};
+use super::walks::{cursor_in, cursor_made, cursor_out, none};
 use super::{ring_in, vector_in, vector_out, word};
 use cursors::Cursor;
+use table::answers::{Both, in_numbers};
 
 pub fn tum_ring_iter(slots: &[u32], state: &[u64; 3], cursor: &mut [usize; 2]) -> u64
     ensures { HearsAt ring iter (ring_of state.now slots.now) result (cursor_of cursor.new) }
 {
     let r = ring_in(state);
-    let b = Cursor::ring_iter(r, slots);
-    begun(cursor, b.number, b.slot, b.cursor)
+    let a = in_numbers(none(), Cursor::iter(r, slots));
+    *cursor = cursor_made(a.state);
+    word(a)
 }
 
 pub fn tum_ring_into_iter(slots: &[u32], state: &[u64; 3], cursor: &mut [usize; 2]) -> u64
@@ -26,8 +28,9 @@ pub fn tum_ring_step_front(slots: &[u32], state: &[u64; 3], cursor: &mut [usize;
 {
     let r = ring_in(state);
     let u = cursor_in(cursor);
-    let s = u.ring_step_front(r, slots);
-    stepped(cursor, s)
+    let a = in_numbers(u, u.step_front(r, slots));
+    cursor_out(cursor, a.number, a.state);
+    word(a)
 }
 
 pub fn tum_ring_step_back(slots: &[u32], state: &[u64; 3], cursor: &mut [usize; 2]) -> u64
@@ -35,8 +38,9 @@ pub fn tum_ring_step_back(slots: &[u32], state: &[u64; 3], cursor: &mut [usize; 
 {
     let r = ring_in(state);
     let u = cursor_in(cursor);
-    let s = u.ring_step_back(r, slots);
-    stepped(cursor, s)
+    let a = in_numbers(u, u.step_back(r, slots));
+    cursor_out(cursor, a.number, a.state);
+    word(a)
 }
 
 pub fn tum_ring_peek_front(slots: &[u32], state: &[u64; 3], cursor: &[usize; 2], k: usize) -> u64
@@ -44,8 +48,8 @@ pub fn tum_ring_peek_front(slots: &[u32], state: &[u64; 3], cursor: &[usize; 2],
 {
     let r = ring_in(state);
     let u = cursor_in(cursor);
-    let s = u.ring_peek_front(r, slots, k);
-    peeked(s)
+    let a = in_numbers(u, u.peek_front(r, slots, k));
+    word(a)
 }
 
 pub fn tum_ring_peek_back(slots: &[u32], state: &[u64; 3], cursor: &[usize; 2], k: usize) -> u64
@@ -53,8 +57,8 @@ pub fn tum_ring_peek_back(slots: &[u32], state: &[u64; 3], cursor: &[usize; 2], 
 {
     let r = ring_in(state);
     let u = cursor_in(cursor);
-    let s = u.ring_peek_back(r, slots, k);
-    peeked(s)
+    let a = in_numbers(u, u.peek_back(r, slots, k));
+    word(a)
 }
 
 pub fn tum_ring_from_iter(
@@ -69,8 +73,14 @@ pub fn tum_ring_from_iter(
     let r = ring_in(state);
     let u = cursor_in(cursor);
     let t = vector_in(other);
-    let a = u.ring_from_iter(r, slots, t, theirs);
-    cursor_out(cursor, a.number, a.cursor);
-    vector_out(other, a.number, a.vector);
-    word(a.number, 0, 0, a.slot)
+    let a = in_numbers(
+        Both {
+            first: u,
+            second: t,
+        },
+        u.from_iter(r, slots, t, theirs),
+    );
+    cursor_out(cursor, a.number, a.state.first);
+    vector_out(other, a.number, a.state.second);
+    word(a)
 }

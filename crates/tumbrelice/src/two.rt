@@ -4,6 +4,7 @@ ghost use Rattle.table.specs.Calls.{append, split_off, clone};
 ghost use Rattle.tumbrelice.specs.Heard.{Hears2, ring_of, vector_of};
 
 use super::{ring_in, ring_out, vector_in, vector_out, word};
+use table::answers::{Both, in_numbers};
 
 pub fn tum_ring_append(
     slots: &mut [u32],
@@ -15,10 +16,16 @@ pub fn tum_ring_append(
 {
     let r = ring_in(state);
     let t = ring_in(other);
-    let a = pairs::rings::append(r, slots, t, theirs);
-    ring_out(state, a.number, a.first);
-    ring_out(other, a.number, a.second);
-    word(a.number, a.value, a.moves, a.slot)
+    let a = in_numbers(
+        Both {
+            first: r,
+            second: t,
+        },
+        pairs::append(r, slots, t, theirs),
+    );
+    ring_out(state, a.number, a.state.first);
+    ring_out(other, a.number, a.state.second);
+    word(a)
 }
 
 pub fn tum_ring_split_off(
@@ -32,10 +39,16 @@ pub fn tum_ring_split_off(
 {
     let r = ring_in(state);
     let t = ring_in(other);
-    let a = pairs::rings::split_off(r, slots, i, t, theirs);
-    ring_out(state, a.number, a.first);
-    ring_out(other, a.number, a.second);
-    word(a.number, a.value, a.moves, a.slot)
+    let a = in_numbers(
+        Both {
+            first: r,
+            second: t,
+        },
+        pairs::split_off(r, slots, i, t, theirs),
+    );
+    ring_out(state, a.number, a.state.first);
+    ring_out(other, a.number, a.state.second);
+    word(a)
 }
 
 pub fn tum_ring_clone(
@@ -48,9 +61,15 @@ pub fn tum_ring_clone(
 {
     let r = ring_in(state);
     let t = ring_in(other);
-    let a = pairs::rings::clone(r, slots, t, theirs);
-    ring_out(other, a.number, a.second);
-    word(a.number, a.value, a.moves, a.slot)
+    let a = in_numbers(
+        Both {
+            first: r,
+            second: t,
+        },
+        pairs::clone(r, slots, t, theirs),
+    );
+    ring_out(other, a.number, a.state.second);
+    word(a)
 }
 
 pub fn tum_vector_append(
@@ -63,10 +82,16 @@ pub fn tum_vector_append(
 {
     let v = vector_in(state);
     let t = vector_in(other);
-    let a = pairs::vectors::append(v, slots, t, theirs);
-    vector_out(state, a.number, a.first);
-    vector_out(other, a.number, a.second);
-    word(a.number, a.value, a.moves, a.slot)
+    let a = in_numbers(
+        Both {
+            first: v,
+            second: t,
+        },
+        pairs::append(v, slots, t, theirs),
+    );
+    vector_out(state, a.number, a.state.first);
+    vector_out(other, a.number, a.state.second);
+    word(a)
 }
 
 pub fn tum_vector_split_off(
@@ -80,10 +105,16 @@ pub fn tum_vector_split_off(
 {
     let v = vector_in(state);
     let t = vector_in(other);
-    let a = pairs::vectors::split_off(v, slots, i, t, theirs);
-    vector_out(state, a.number, a.first);
-    vector_out(other, a.number, a.second);
-    word(a.number, a.value, a.moves, a.slot)
+    let a = in_numbers(
+        Both {
+            first: v,
+            second: t,
+        },
+        pairs::split_off(v, slots, i, t, theirs),
+    );
+    vector_out(state, a.number, a.state.first);
+    vector_out(other, a.number, a.state.second);
+    word(a)
 }
 
 pub fn tum_vector_clone(
@@ -96,7 +127,13 @@ pub fn tum_vector_clone(
 {
     let v = vector_in(state);
     let t = vector_in(other);
-    let a = pairs::vectors::clone(v, slots, t, theirs);
-    vector_out(other, a.number, a.second);
-    word(a.number, a.value, a.moves, a.slot)
+    let a = in_numbers(
+        Both {
+            first: v,
+            second: t,
+        },
+        pairs::clone(v, slots, t, theirs),
+    );
+    vector_out(other, a.number, a.state.second);
+    word(a)
 }

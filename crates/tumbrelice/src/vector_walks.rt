@@ -3,16 +3,18 @@ ghost use Rattle.slots.specs.Layout.{vector};
 ghost use Rattle.table.specs.Calls.{iter, into_iter, step_front, step_back, peek_front, peek_back};
 ghost use Rattle.tumbrelice.specs.Heard.{HearsAt, HearsInto, vector_of, cursor_of};
 
-use super::walks::{begun, cursor_in, cursor_out, peeked, stepped};
+use super::walks::{cursor_in, cursor_made, cursor_out, none};
 use super::{vector_in, vector_out, word};
 use cursors::Cursor;
+use table::answers::{Both, in_numbers};
 
 pub fn tum_vector_iter(slots: &[u32], state: &[u64; 2], cursor: &mut [usize; 2]) -> u64
     ensures { HearsAt vector iter (vector_of state.now slots.now) result (cursor_of cursor.new) }
 {
     let v = vector_in(state);
-    let b = Cursor::vector_iter(v, slots);
-    begun(cursor, b.number, b.slot, b.cursor)
+    let a = in_numbers(none(), Cursor::iter(v, slots));
+    *cursor = cursor_made(a.state);
+    word(a)
 }
 
 pub fn tum_vector_into_iter(slots: &[u32], state: &[u64; 2], cursor: &mut [usize; 2]) -> u64
@@ -26,8 +28,9 @@ pub fn tum_vector_step_front(slots: &[u32], state: &[u64; 2], cursor: &mut [usiz
 {
     let v = vector_in(state);
     let u = cursor_in(cursor);
-    let s = u.vector_step_front(v, slots);
-    stepped(cursor, s)
+    let a = in_numbers(u, u.step_front(v, slots));
+    cursor_out(cursor, a.number, a.state);
+    word(a)
 }
 
 pub fn tum_vector_step_back(slots: &[u32], state: &[u64; 2], cursor: &mut [usize; 2]) -> u64
@@ -35,8 +38,9 @@ pub fn tum_vector_step_back(slots: &[u32], state: &[u64; 2], cursor: &mut [usize
 {
     let v = vector_in(state);
     let u = cursor_in(cursor);
-    let s = u.vector_step_back(v, slots);
-    stepped(cursor, s)
+    let a = in_numbers(u, u.step_back(v, slots));
+    cursor_out(cursor, a.number, a.state);
+    word(a)
 }
 
 pub fn tum_vector_peek_front(slots: &[u32], state: &[u64; 2], cursor: &[usize; 2], k: usize) -> u64
@@ -44,8 +48,8 @@ pub fn tum_vector_peek_front(slots: &[u32], state: &[u64; 2], cursor: &[usize; 2
 {
     let v = vector_in(state);
     let u = cursor_in(cursor);
-    let s = u.vector_peek_front(v, slots, k);
-    peeked(s)
+    let a = in_numbers(u, u.peek_front(v, slots, k));
+    word(a)
 }
 
 pub fn tum_vector_peek_back(slots: &[u32], state: &[u64; 2], cursor: &[usize; 2], k: usize) -> u64
@@ -53,8 +57,8 @@ pub fn tum_vector_peek_back(slots: &[u32], state: &[u64; 2], cursor: &[usize; 2]
 {
     let v = vector_in(state);
     let u = cursor_in(cursor);
-    let s = u.vector_peek_back(v, slots, k);
-    peeked(s)
+    let a = in_numbers(u, u.peek_back(v, slots, k));
+    word(a)
 }
 
 pub fn tum_vector_from_iter(
@@ -69,8 +73,14 @@ pub fn tum_vector_from_iter(
     let v = vector_in(state);
     let u = cursor_in(cursor);
     let t = vector_in(other);
-    let a = u.vector_from_iter(v, slots, t, theirs);
-    cursor_out(cursor, a.number, a.cursor);
-    vector_out(other, a.number, a.vector);
-    word(a.number, 0, 0, a.slot)
+    let a = in_numbers(
+        Both {
+            first: u,
+            second: t,
+        },
+        u.from_iter(v, slots, t, theirs),
+    );
+    cursor_out(cursor, a.number, a.state.first);
+    vector_out(other, a.number, a.state.second);
+    word(a)
 }

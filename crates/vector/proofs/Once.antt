@@ -2,41 +2,48 @@
 use Prim.Native.Nat.{ℕ}
 use mathlib.Core.Path.{◌≡◌, refl, sym, ◌∙◌}
 use mathlib.Core.List.{List}
+use Rattle.std.proofs.Common.{Result}
 use contract.Lifetimes.{Lfts}
 use Rattle.slots.proofs.Twice.{Twice}
 use Rattle.table.specs.Calls.{Call, Making}
 use Rattle.table.specs.Does.{Outcome}
+use Rattle.table.specs.Answers.{numbered}
+use Rattle.table.specs.declared.answers.Answer.{Answer}
+use Rattle.table.specs.declared.answers.Numbered.{Numbered}
+use Rattle.table.specs.declared.answers.Refusal.{Refusal}
+use Rattle.table.proofs.Laws.Numbered.{same_answer}
 use Rattle.table.proofs.Theorems.Unique.{one_answer}
 use Rattle.vector.specs.declared.Vector.{Vector}
-use Rattle.vector.specs.declared.Answer.{Answer}
-use Rattle.vector.specs.Seen.{seen, Meets, Makes, state}
+use Rattle.vector.specs.Seen.{seen, none, Meets, Makes, state}
 use denote.MutBor.{as_bor}
 use Rattle.table.proofs.Laws.Lending.{one_part}
 use Rattle.vector.proofs.Vector as fns
 use Rattle.vector.specs.contracts.Vector as fns·promise
 use Rattle.vector.proofs.state as state·fn
 use Rattle.vector.specs.contracts.state as state·promise
-use Rattle.vector.proofs.refused as refused·fn
-use Rattle.vector.specs.contracts.refused as refused·promise
-use Rattle.vector.proofs.shows as shows·fn
-use Rattle.vector.specs.contracts.shows as shows·promise
 use Rattle.vector.proofs.done as done·fn
 use Rattle.vector.specs.contracts.done as done·promise
 
--- an answer is told by what is seen of it, by the slot that it reports and by the total
-pub told_by : (o : Outcome) (n m : ℕ) (r r' : Answer) (s s' : List ℕ) → seen r s ≡ o → seen r' s' ≡ o → r.slot ≡ n → r'.slot ≡ n → r.vector.total.sum ≡ m → r'.vector.total.sum ≡ m
-    → (r ≡ r') × (s ≡ s')
-told_by o n m r r' s s' e e' slot slot' sum sum' =
-    one_answer {B = ℕ × ℕ} seen (λ r. (r.slot, r.vector.total.sum))
-    (λ o b. record { number = o.number; value = o.value; moves = o.moves; slot = b.0; vector = state o.tray.len (record { sum = b.1 }) })
-    (λ r s. refl) (λ r s. refl) o (n, m) r r' s s' e e' (cc) (cc)
+-- an answer as it is numbered is told by what is seen of it, by the slot that it reports and by the total
+numbers : (o : Outcome) (n m : ℕ) (a a' : Numbered Vector) (s s' : List ℕ) → seen a s ≡ o → seen a' s' ≡ o → a.slot ≡ n → a'.slot ≡ n
+    → a.state.total.sum ≡ m → a'.state.total.sum ≡ m → (a ≡ a') × (s ≡ s')
+numbers o n m a a' s s' e e' slot slot' sum sum' =
+    one_answer {B = ℕ × ℕ} seen (λ a. (a.slot, a.state.total.sum))
+    (λ o b. record { number = o.number; value = o.value; moves = o.moves; slot = b.0; state = state o.tray.len (record { sum = b.1 }) })
+    (λ a s. refl) (λ a s. refl) o (n, m) a a' s s' e e' (cc) (cc)
+
+pub told_by : (v : Vector) (o : Outcome) (n m : ℕ) (r r' : Result (Answer Vector) Refusal) (s s' : List ℕ) → seen (numbered v r) s ≡ o → seen (numbered v r') s' ≡ o
+    → (numbered v r).slot ≡ n → (numbered v r').slot ≡ n → (numbered v r).state.total.sum ≡ m → (numbered v r').state.total.sum ≡ m → (r ≡ r') × (s ≡ s')
+told_by v o n m r r' s s' e e' slot slot' sum sum' =
+    let same = numbers o n m (numbered v r) (numbered v r') s s' e e' slot slot' sum sum' in
+    (same_answer v r r' same.0, same.1)
 
 -- every promise that bears a number is `Meets`, a making's `Makes`
-one : {call : Call} {v : Vector} {b : List ℕ} (r r' : Answer) (s s' : List ℕ) → Meets call v b r s → Meets call v b r' s' → (r ≡ r') × (s ≡ s')
-one r r' s s' p q = told_by _ _ _ r r' s s' p.row q.row p.slot q.slot p.total q.total
+one : {call : Call} {v : Vector} {b : List ℕ} (r r' : Result (Answer Vector) Refusal) (s s' : List ℕ) → Meets call v b r s → Meets call v b r' s' → (r ≡ r') × (s ≡ s')
+one {v = v} r r' s s' p q = told_by v _ _ _ r r' s s' p.row q.row p.slot q.slot p.total q.total
 
-one_made : {m : Making} {b : List ℕ} (r r' : Answer) (s s' : List ℕ) → Makes m b r s → Makes m b r' s' → (r ≡ r') × (s ≡ s')
-one_made r r' s s' p q = told_by _ _ _ r r' s s' p.row q.row p.slot q.slot p.total q.total
+one_made : {m : Making} {b : List ℕ} (r r' : Result (Answer Vector) Refusal) (s s' : List ℕ) → Makes m b r s → Makes m b r' s' → (r ≡ r') × (s ≡ s')
+one_made r r' s s' p q = told_by none _ _ _ r r' s s' p.row q.row p.slot q.slot p.total q.total
 
 module _ (κs : Lfts 1) where
   pub new_once : Twice fns·promise.new.ended κs (fns.new.Reads.Learnt κs) (λ r e r' e'. r ≡ r')
@@ -122,12 +129,6 @@ module _ (κs : Lfts 2) where
 module _ (κs : Lfts 0) where
   pub state_once : Twice state·promise.ended κs (state·fn.Reads.Learnt κs) (λ r e r' e'. r ≡ r')
   state_once a r r' e e' p q = p ∙ sym q
-
-  pub refused_once : Twice refused·promise.ended κs (refused·fn.Reads.Learnt κs) (λ r e r' e'. r ≡ r')
-  refused_once a r r' e e' p q = p ∙ sym q
-
-  pub shows_once : Twice shows·promise.ended κs (shows·fn.Reads.Learnt κs) (λ r e r' e'. r ≡ r')
-  shows_once a r r' e e' p q = p ∙ sym q
 
   pub done_once : Twice done·promise.ended κs (done·fn.Reads.Learnt κs) (λ r e r' e'. r ≡ r')
   done_once a r r' e e' p q = p ∙ sym q

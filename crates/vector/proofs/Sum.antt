@@ -3,6 +3,10 @@
 use Prim.Native.Nat.{ℕ, ◌^◌, ◌<◌}
 use mathlib.Core.Path.{◌≡◌, ◌∙◌}
 use mathlib.Core.List.{List}
+use Rattle.std.proofs.Common.{Result}
+use Rattle.table.specs.Answers.{numbered}
+use Rattle.table.specs.declared.answers.Answer.{Answer}
+use Rattle.table.specs.declared.answers.Refusal.{Refusal}
 use Rattle.slots.specs.Layout.{vector}
 use Rattle.slots.specs.Total.{total}
 use Rattle.table.specs.Tray.{list}
@@ -11,17 +15,16 @@ use Rattle.table.specs.Ledger.{flow}
 use Rattle.table.proofs.Theorems.Totals.{Changes, by_ledger}
 use Rattle.table.proofs.Theorems.Sums.{call_sum, made_sum}
 use Rattle.vector.specs.declared.Vector.{Vector}
-use Rattle.vector.specs.declared.Answer.{Answer}
-use Rattle.vector.specs.Seen.{tray, seen, Meets, Makes}
+use Rattle.vector.specs.Seen.{tray, seen, none, Meets, Makes}
 
-module _ (call : Call) (v : Vector) (before after : List ℕ) (a : Answer) (m : Meets call v before a after) where
-  pub changes : a.number ≡ 0 → Changes (flow call a.value (list vector (tray v before))) v.total.sum a.vector.total.sum
-  changes zero = record { is = m.total ∙ (by_ledger vector call _ (seen a after) v.total.sum m.row zero).is }
+module _ (call : Call) (v : Vector) (before after : List ℕ) (a : Result (Answer Vector) Refusal) (m : Meets call v before a after) where
+  pub changes : (numbered v a).number ≡ 0 → Changes (flow call (numbered v a).value (list vector (tray v before))) v.total.sum (numbered v a).state.total.sum
+  changes zero = record { is = m.total ∙ (by_ledger vector call _ (seen (numbered v a) after) v.total.sum m.row zero).is }
 
-  pub stays_right : v.total.sum ≡ total (list vector (tray v before)) → total (list vector (tray a.vector after)) < 2 ^ 64
-      → a.vector.total.sum ≡ total (list vector (tray a.vector after))
-  stays_right = call_sum vector call _ (seen a after) _ _ m.row m.total
+  pub stays_right : v.total.sum ≡ total (list vector (tray v before)) → total (list vector (tray (numbered v a).state after)) < 2 ^ 64
+      → (numbered v a).state.total.sum ≡ total (list vector (tray (numbered v a).state after))
+  stays_right = call_sum vector call _ (seen (numbered v a) after) _ _ m.row m.total
 
-pub starts_right : (making : Making) (before after : List ℕ) (a : Answer) → Makes making before a after → total (list vector (tray a.vector after)) < 2 ^ 64
-    → a.vector.total.sum ≡ total (list vector (tray a.vector after))
-starts_right making before after a m = made_sum vector making before (seen a after) _ m.row m.total
+pub starts_right : (making : Making) (before after : List ℕ) (a : Result (Answer Vector) Refusal) → Makes making before a after → total (list vector (tray (numbered none a).state after)) < 2 ^ 64
+    → (numbered none a).state.total.sum ≡ total (list vector (tray (numbered none a).state after))
+starts_right making before after a m = made_sum vector making before (seen (numbered none a) after) _ m.row m.total

@@ -1,17 +1,21 @@
 // A vector of entries in lent slots. Each call's promise is its row of the table.
-#![tactic(auto)]
+#![tactic(auto, using(table::proofs::Laws::Valid::state))]
 
 pub mod looks; // looks.rt: the makings, and the calls that change nothing
 pub mod parts; // parts.rt: the parts of the slots that are lent on
 
-ghost use Rattle.std.specs.Prelude.{◌≡◌};
+ghost use Rattle.std.specs.Prelude.{◌≡◌, ◌<◌, ◌+◌, ◌-◌, ◌^◌};
+ghost use Rattle.table.specs.Answers.{told};
 ghost use Rattle.table.specs.Calls.{write, push, pop, insert, remove, swap_remove, truncate, resize, clear, extend};
+ghost use Rattle.table.specs.declared.answers.Refusal.TheVariants.{Invalid, Full};
 ghost use Rattle.slots.specs.Total.{changed};
 ghost use Rattle.runs.specs.Width.{summing};
-ghost use Rattle.vector.specs.Seen.{Meets, state, says, lit};
+ghost use Rattle.vector.specs.Seen.{Meets, state};
+ghost use Rattle.vector.specs.Tested.{Tells};
 
 use runs::total;
 use runs::total::Total;
+use table::answers::{Answer, Refusal};
 
 #[derive(Clone, Copy)]
 pub struct Vector {
@@ -19,191 +23,195 @@ pub struct Vector {
     pub total: Total,
 }
 
-#[derive(Clone, Copy)]
-pub struct Answer {
-    pub number: u8,
-    pub value: u32,
-    pub moves: usize,
-    pub slot: usize,
-    pub vector: Vector,
-}
-
 impl Vector {
-    pub fn write(self, slots: &mut [u32], i: usize, x: u32) -> Answer
+    pub fn write(self, slots: &mut [u32], i: usize, x: u32) -> Result<Answer<Vector>, Refusal>
         ensures { Meets (write i x) self slots.old result slots.new }
     {
         let cap = slots.len();
+        self.holding(cap, i, Refusal::Beyond)?;
         let len = self.len;
-        if table::invalid_vector_or_beyond(cap, len, i) {
-            if table::invalid_vector(cap, len) {
-                return refused(1, self);
-            }
-            return refused(3, self);
-        }
         let old = slots[i];
         slots[i] = x;
         let total = total::traded(self.total, x, old);
-        lit(i, done(old, 0, len, total))
+        Ok(done(old, 0, len, total).lit(i))
     }
 
-    pub fn push(self, slots: &mut [u32], x: u32) -> Answer
+    pub fn push(self, slots: &mut [u32], x: u32) -> Result<Answer<Vector>, Refusal>
         ensures { Meets (push x) self slots.old result slots.new }
     {
         let cap = slots.len();
+        self.roomy(cap)?;
         let len = self.len;
-        if table::invalid_vector_or_full(cap, len) {
-            if table::invalid_vector(cap, len) {
-                return refused(1, self);
-            }
-            return refused(6, self);
-        }
         slots[len] = x;
-        lit(len, entered(x, 0, len + 1, self.total))
+        Ok(self.entered(x, 0).lit(len))
     }
 
-    pub fn pop(self, slots: &mut [u32]) -> Answer
+    pub fn pop(self, slots: &mut [u32]) -> Result<Answer<Vector>, Refusal>
         ensures { Meets pop self slots.old result slots.new }
     {
         let cap = slots.len();
+        self.holding(cap, 0, Refusal::Empty)?;
         let len = self.len;
-        if table::invalid_vector_or_beyond(cap, len, 0) {
-            if table::invalid_vector(cap, len) {
-                return refused(1, self);
-            }
-            return refused(4, self);
-        }
         let last = len - 1;
         let old = slots[last];
         slots[last] = 0;
-        lit(last, took(old, 0, last, self.total))
+        Ok(self.took(old, 0).lit(last))
     }
 
-    pub fn insert(self, slots: &mut [u32], i: usize, x: u32) -> Answer
+    pub fn insert(self, slots: &mut [u32], i: usize, x: u32) -> Result<Answer<Vector>, Refusal>
         ensures { Meets (insert i x) self slots.old result slots.new }
     {
         let cap = slots.len();
+        self.valid_on(cap)?;
         let len = self.len;
-        if table::invalid_vector(cap, len) {
-            return refused(1, self);
-        }
         if len < i {
-            return refused(3, self);
+            return Err(Refusal::Beyond);
         }
         if cap <= len {
-            return refused(6, self);
+            return Err(Refusal::Full);
         }
         runs::run_up(slots, i, len);
         slots[i] = x;
-        lit(i, entered(x, len - i, len + 1, self.total))
+        Ok(self.entered(x, len - i).lit(i))
     }
 
-    pub fn remove(self, slots: &mut [u32], i: usize) -> Answer
+    pub fn remove(self, slots: &mut [u32], i: usize) -> Result<Answer<Vector>, Refusal>
         ensures { Meets (remove i) self slots.old result slots.new }
     {
         let cap = slots.len();
+        self.holding(cap, i, Refusal::Beyond)?;
         let len = self.len;
-        if table::invalid_vector_or_beyond(cap, len, i) {
-            if table::invalid_vector(cap, len) {
-                return refused(1, self);
-            }
-            return refused(3, self);
-        }
         let last = len - 1;
         let old = slots[i];
         runs::run_down(slots, i, last);
         slots[last] = 0;
-        lit(i, took(old, last - i, last, self.total))
+        Ok(self.took(old, last - i).lit(i))
     }
 
     // The last entry, where it is the one removed, is not stored back.
-    pub fn swap_remove(self, slots: &mut [u32], i: usize) -> Answer
+    pub fn swap_remove(self, slots: &mut [u32], i: usize) -> Result<Answer<Vector>, Refusal>
         ensures { Meets (swap_remove i) self slots.old result slots.new }
     {
         let cap = slots.len();
+        self.holding(cap, i, Refusal::Beyond)?;
         let len = self.len;
-        if table::invalid_vector_or_beyond(cap, len, i) {
-            if table::invalid_vector(cap, len) {
-                return refused(1, self);
-            }
-            return refused(3, self);
-        }
         let last = len - 1;
         let old = slots[i];
         if i == last {
             slots[last] = 0;
-            return lit(i, took(old, 0, last, self.total));
+            return Ok(self.took(old, 0).lit(i));
         }
         slots[i] = slots[last];
         slots[last] = 0;
-        lit(i, took(old, 1, last, self.total))
+        Ok(self.took(old, 1).lit(i))
     }
 
-    pub fn truncate(self, slots: &mut [u32], k: usize) -> Answer
+    pub fn truncate(self, slots: &mut [u32], k: usize) -> Result<Answer<Vector>, Refusal>
         ensures { Meets (truncate k) self slots.old result slots.new }
     {
-        let cap = slots.len();
+        self.valid_on(slots.len())?;
         let len = self.len;
-        if table::invalid_vector(cap, len) {
-            return refused(1, self);
-        }
         if len <= k {
-            return shows(0, self);
+            return Ok(Answer::telling(0, 0, self));
         }
         let gone = runs::clear::run_clear(slots, k, len);
         let total = total::less(self.total, gone);
-        done(0, 0, k, total)
+        Ok(done(0, 0, k, total))
     }
 
-    pub fn resize(self, slots: &mut [u32], k: usize, x: u32) -> Answer
+    pub fn resize(self, slots: &mut [u32], k: usize, x: u32) -> Result<Answer<Vector>, Refusal>
         ensures { Meets (resize k x) self slots.old result slots.new }
     {
         let cap = slots.len();
+        self.valid_on(cap)?;
         let len = self.len;
-        if table::invalid_vector(cap, len) {
-            return refused(1, self);
-        }
         if cap < k {
-            return refused(6, self);
+            return Err(Refusal::Full);
         }
         if k < len {
             let gone = runs::clear::run_clear(slots, k, len);
             let total = total::less(self.total, gone);
-            return done(0, 0, k, total);
+            return Ok(done(0, 0, k, total));
         }
         let total = total::more(self.total, total::times(k - len, x));
         runs::run_fill(slots, len, k, x);
-        done(0, 0, k, total)
+        Ok(done(0, 0, k, total))
     }
 
-    pub fn clear(self, slots: &mut [u32]) -> Answer
+    pub fn clear(self, slots: &mut [u32]) -> Result<Answer<Vector>, Refusal>
         ensures { Meets clear self slots.old result slots.new }
     {
-        let cap = slots.len();
+        self.valid_on(slots.len())?;
         let len = self.len;
-        if table::invalid_vector(cap, len) {
-            return refused(1, self);
-        }
         let gone = runs::clear::run_clear(slots, 0, len);
         let total = total::less(self.total, gone);
-        done(0, 0, 0, total)
+        Ok(done(0, 0, 0, total))
     }
 
     // The free slots are counted, not the sum of both, which could wrap.
-    pub fn extend_from_slice(self, slots: &mut [u32], s: &[u32]) -> Answer
+    pub fn extend_from_slice(self, slots: &mut [u32], s: &[u32]) -> Result<Answer<Vector>, Refusal>
         ensures { Meets (extend s.now) self slots.old result slots.new }
     {
         let cap = slots.len();
+        self.valid_on(cap)?;
         let len = self.len;
-        if table::invalid_vector(cap, len) {
-            return refused(1, self);
-        }
         let more = s.len();
         if cap - len < more {
-            return refused(6, self);
+            return Err(Refusal::Full);
         }
         let by = runs::bring::bring_part(slots, len, s);
         let total = total::more(self.total, by);
-        done(0, 0, len + more, total)
+        Ok(done(0, 0, len + more, total))
+    }
+
+    // What a call answers that has put x in.
+    fn entered(self, x: u32, moves: usize) -> Answer<Vector>
+        requires { self.len + 1 < 2 ^ 64 }
+        ensures { result ≡ told 0 moves (state (self.len + 1) (summing (changed self.total.sum x 0))) }
+    {
+        done(0, moves, self.len + 1, total::put(self.total, x))
+    }
+
+    // What a call answers that hands out x, which it took.
+    fn took(self, x: u32, moves: usize) -> Answer<Vector>
+        requires { 0 < self.len }
+        ensures { result ≡ told x moves (state (self.len - 1) (summing (changed self.total.sum 0 x))) }
+    {
+        done(x, moves, self.len - 1, total::took(self.total, x))
+    }
+}
+
+// What stops a call before its work: past each of these the state is one of a vector on so many slots.
+impl Vector {
+    fn valid_on(self, cap: usize) -> Result<(), Refusal>
+        ensures { Tells cap self.len 0 1 Invalid result }
+    {
+        if table::invalid_vector(cap, self.len) {
+            return Err(Refusal::Invalid);
+        }
+        Ok(())
+    }
+
+    // And position i holds an entry. One test lets a call go on; a second finds why one may not.
+    fn holding(self, cap: usize, i: usize, why: Refusal) -> Result<(), Refusal>
+        ensures { Tells cap self.len i self.len why result }
+    {
+        if table::invalid_vector_or_beyond(cap, self.len, i) {
+            self.valid_on(cap)?;
+            return Err(why);
+        }
+        Ok(())
+    }
+
+    // And a slot is free.
+    fn roomy(self, cap: usize) -> Result<(), Refusal>
+        ensures { Tells cap self.len self.len cap Full result }
+    {
+        if table::invalid_vector_or_full(cap, self.len) {
+            self.valid_on(cap)?;
+            return Err(Refusal::Full);
+        }
+        Ok(())
     }
 }
 
@@ -214,64 +222,9 @@ pub fn state(len: usize, total: Total) -> Vector
     Vector { len, total }
 }
 
-// Every answer is put together here.
-fn says(number: u8, value: u32, moves: usize, vector: Vector) -> Answer
-    ensures { result ≡ says number value moves vector }
+// What a call answers that is done, with the state afterwards.
+pub fn done(value: u32, moves: usize, len: usize, total: Total) -> Answer<Vector>
+    ensures { result ≡ told value moves (state len total) }
 {
-    Answer {
-        number,
-        value,
-        moves,
-        slot: slots::NO_SLOT,
-        vector,
-    }
-}
-
-// A lamp lights at the slot concerned: the one that the call has used.
-fn lit(at: usize, a: Answer) -> Answer
-    ensures { result ≡ lit at a }
-{
-    let vector = a.vector;
-    Answer {
-        number: a.number,
-        value: a.value,
-        moves: a.moves,
-        slot: at,
-        vector,
-    }
-}
-
-// A refused call gives back the state that it got.
-pub fn refused(number: u8, vector: Vector) -> Answer
-    ensures { result ≡ says number 0 0 vector }
-{
-    says(number, 0, 0, vector)
-}
-
-// So does a call that is done and leaves the state.
-pub fn shows(value: u32, vector: Vector) -> Answer
-    ensures { result ≡ says 0 value 0 vector }
-{
-    says(0, value, 0, vector)
-}
-
-// A call that is done, with the state afterwards.
-pub fn done(value: u32, moves: usize, len: usize, total: Total) -> Answer
-    ensures { result ≡ says 0 value moves (state len total) }
-{
-    says(0, value, moves, state(len, total))
-}
-
-// A call that is done and has put x in.
-fn entered(x: u32, moves: usize, len: usize, total: Total) -> Answer
-    ensures { result ≡ says 0 0 moves (state len (summing (changed total.sum x 0))) }
-{
-    done(0, moves, len, total::put(total, x))
-}
-
-// A call that is done and hands out the entry that it took.
-fn took(x: u32, moves: usize, len: usize, total: Total) -> Answer
-    ensures { result ≡ says 0 x moves (state len (summing (changed total.sum 0 x))) }
-{
-    done(x, moves, len, total::took(total, x))
+    Answer::telling(value, moves, state(len, total))
 }

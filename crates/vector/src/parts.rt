@@ -1,4 +1,5 @@
-// The parts of a vector's slots that are lent on: no number goes with them, `ask_range` answers for the same state and range.
+// The parts of a vector's slots that are lent on: no number goes with them, `ask_range` answers for the same state and range. The C interface has
+// as_slice and as_mut_slice by upstream's second names too.
 ghost use Rattle.runs.specs.Width.{bytes};
 ghost use Rattle.table.specs.Parts.{lends, lends_all};
 ghost use Rattle.table.specs.Lent.{Lent};

@@ -1,13 +1,16 @@
 -- Lines written piece by piece: a piece right behind another makes one with it, and a loop that writes what is left has written all at its end.
 use mathlib.Core.Path.{◌≡◌, refl, sym, ap, ◌∙◌}
 use mathlib.Core.List.{List, [], ◌∷◌, ◌++◌}
-use Prim.Native.Nat.{ℕ, ◌+◌, ◌≤◌, ◌<◌}
+use Prim.Native.Nat.{ℕ, ◌+◌, ◌-◌, ◌≤◌, ◌<◌}
 use native.Mathlib.Numerals.{add-one}
 use native.Mathlib.Omega.{arith}
-use lib.ListN.{length, get_or, set, drop, length-set, length-append, drop_of_length-le}
+use borrow.Rule.Slice.PartMut.{put_mid}
+use Rattle.std.proofs.lemmas.List.Edits.{paste_all}
+use Rattle.std.proofs.lemmas.Slice.{put_mid-paste}
+use lib.ListN.{length, get_or, set, drop, length-set, length-append}
 use lib.Seq.{drop-cons}
 use Rattle.digits.specs.Put.{put}
-use Rattle.digits.proofs.Puts.{put_one, put_after}
+use Rattle.digits.proofs.Puts.{put_one, put_after, put_at, length_put}
 use Rattle.words.specs.Wrote.{Wrote}
 
 pub wrote_none : {a : List ℕ} {at : ℕ} → Wrote a at [] at a
@@ -44,18 +47,14 @@ left_then {a} {b} {c} {at} {end} {e} {all} {s} {s2} p q = record {
   long = q.long ∙ p.long;
 }
 
--- of a loop that writes byte after byte of a text
-pub text_start : (a : List ℕ) (at : ℕ) (text : List ℕ) → Left a at text (at + 0) text a
-text_start a at text = let e : at + 0 ≡ at = omega arith in rw e left_all
-
+-- of a loop that writes byte after byte of a text: the next one
 pub left_cons : (text : List ℕ) (i : ℕ) → i < length text → drop i text ≡ get_or text i 0 ∷ drop (i + 1) text
 left_cons text i h = rw (add-one, drop-cons text i 0)
 
-module _ {a b : List ℕ} {at : ℕ} (text : List ℕ) (i : ℕ) where
-  pub text_turn : Left a at text (at + i) (drop i text) b → i < length text → Left a at text (at + (i + 1)) (drop (i + 1) text) (set b (at + i) (get_or text i 0))
-  text_turn p h =
-      let e : at + i + 1 ≡ at + (i + 1) = omega arith in
-      rw (← e) (left_then {s = get_or text i 0 ∷ []} (rw (left_cons text i h) at p) (wrote_one b (at + i) (get_or text i 0)))
-
-  pub text_end_law : Left a at text (at + i) (drop i text) b → length text ≤ i → Wrote a at text (at + i) b
-  text_end_law p h = left_none (rw (drop_of_length-le text {i = i} h) at p)
+-- c is what the part of a that is written holds then
+pub wrote_text : (a s c : List ℕ) (at : ℕ) → at + length s ≤ length a → c ≡ s → Wrote a at s (at + length s) (put_mid at (at + length s - at) a c)
+wrote_text a s c at room e =
+    let k : length s ≡ at + length s - at = omega arith in
+    let put : put_mid at (at + length s - at) a c ≡ put a at s =
+    put_mid-paste at (at + length s - at) a c s (length s) e k refl ∙ paste_all a at s (length s) refl ∙ sym (put_at a at s room) in
+    record { bytes = put; behind = refl; long = ap length put ∙ length_put a at s }

@@ -1,4 +1,6 @@
 // Words and decimal numbers, written into a lent text from a place on.
+// No Display: it promises what it wrote only where its writer took it, and here each line's bytes are promised.
+// A text and a place stay two: `import` lends a page's bytes, `show` an array, so a struct of both would be made for each line and taken apart behind it.
 #![tactic(auto)]
 
 ghost use Rattle.std.specs.Prelude.{◌+◌, ◌≤◌, length};
@@ -6,16 +8,14 @@ ghost use Rattle.words.specs.Words.{decimal, numbered, several};
 ghost use Rattle.words.specs.Wrote.{Wrote};
 
 // Bytes as they are.
+#[tactic(auto, using(crate::proofs::Writing::wrote_text))]
 pub fn put_text(text: &[u8], out: &mut [u8], at: usize) -> usize
     requires { at + length text.now ≤ length out.old }
     ensures { Wrote out.old at text.now result out.new }
 {
-    let mut i = 0;
-    while i < text.len() {
-        out[at + i] = text[i];
-        i += 1;
-    }
-    at + i
+    let end = at + text.len();
+    out[at..end].copy_from_slice(text);
+    end
 }
 
 // A number's digits.
@@ -42,9 +42,9 @@ pub fn put_several(n: u64, what: &[u8], out: &mut [u8], at: usize) -> usize
     requires { at + 30 ≤ length out.old × (length what.now ≤ 6) }
     ensures { Wrote out.old at (several n what.now) result out.new × (result ≤ at + 30) }
 {
-    let mut end = put_decimal(n, out, at);
-    end = put_text(b" ", out, end);
-    end = put_text(what, out, end);
+    let end = put_decimal(n, out, at);
+    let end = put_text(b" ", out, end);
+    let end = put_text(what, out, end);
     if n == 1 {
         return end;
     }

@@ -1,35 +1,53 @@
--- Numbers are laid into slots one by one: what was laid, with what is left, is always the whole.
+-- Places are laid into the slots of two vectors one by one: what was laid, with what is left, is always the whole.
 use mathlib.Core.Path.{◌≡◌, refl, sym, ap, ◌∙◌}
-use mathlib.Core.List.{List, ◌∷◌}
+use mathlib.Core.List.{List, [], ◌∷◌}
 use Prim.Native.Nat.{ℕ, ◌+◌, ◌≤◌, ◌<◌}
 use native.Mathlib.Numerals.{add-one}
+use lib.ListN.{length, get_or, take, drop, set, drop_of_length-le}
+use lib.Seq.{sets, drop-cons, get_or-take, length-take-le}
 use native.Mathlib.Omega.{arith}
-use lib.ListN.{length, get_or, take, drop, set, length-set, drop_of_length-le}
-use lib.Seq.{sets, length-take-le, get_or-take}
-use Rattle.record.proofs.Laws.Runs.{left}
+use Rattle.record.specs.Places.{firsts, lasts}
 
--- the slots after k of the first `count` kept numbers were laid
-pub record Laying (kept : List ℕ) (count : ℕ) (slots₀ slots : List ℕ) (k : ℕ) : Type 0 where
-  pub few : k ≤ count
-  pub same : length slots ≡ length slots₀
-  pub whole : sets slots k (drop k (take count kept)) ≡ sets slots₀ 0 (take count kept)
+-- the slots after the first k of these places were laid
+pub record Laying (fields : List (ℕ × ℕ)) (slots₀ theirs₀ slots theirs : List ℕ) (k : ℕ) : Type 0 where
+  pub starts_are : sets slots k (firsts (drop k fields)) ≡ sets slots₀ 0 (firsts fields)
+  pub ends_are : sets theirs k (lasts (drop k fields)) ≡ sets theirs₀ 0 (lasts fields)
 
-pub none_laid : (kept slots : List ℕ) (count : ℕ) → Laying kept count slots slots 0
-none_laid kept slots count = record { few = omega arith; same = refl; whole = refl }
+pub none_laid : (fields : List (ℕ × ℕ)) (slots theirs : List ℕ) → Laying fields slots theirs slots theirs 0
+none_laid fields slots theirs = record { starts_are = refl; ends_are = refl }
 
-pub one_laid : (kept slots₀ slots : List ℕ) (count k : ℕ) → Laying kept count slots₀ slots k → k < count → count ≤ length kept
-    → Laying kept count slots₀ (set slots k (get_or kept k 0)) (k + 1)
-one_laid kept slots₀ slots count k l h fits =
-    let size : length (take count kept) ≡ count = length-take-le count kept fits in
-    let next : drop k (take count kept) ≡ get_or kept k 0 ∷ drop (k + 1) (take count kept) = left (take count kept) k (omega arith) ∙ rw (get_or-take count kept k 0 h) refl in
-    let laid : sets (set slots k (get_or kept k 0)) (k + 1) (drop (k + 1) (take count kept)) ≡ sets slots k (drop k (take count kept)) = rw (next, add-one k) refl in
-    record {
-      few = omega arith;
-      same = length-set slots k (get_or kept k 0) ∙ l.same;
-      whole = laid ∙ l.whole;
-    }
+module _ (fields : List (ℕ × ℕ)) (slots₀ theirs₀ slots theirs : List ℕ) (k : ℕ) (l : Laying fields slots₀ theirs₀ slots theirs k) where
+  pub one_laid : (a e : ℕ) → drop k fields ≡ (a, e) ∷ drop (k + 1) fields → Laying fields slots₀ theirs₀ (set slots k a) (set theirs k e) (k + 1)
+  unfolding firsts lasts
+  one_laid a e split =
+      let starts_left : sets (set slots k a) (k + 1) (firsts (drop (k + 1) fields)) ≡ sets slots k (firsts (drop k fields)) = rw (split, add-one k) refl in
+      let ends_left : sets (set theirs k e) (k + 1) (lasts (drop (k + 1) fields)) ≡ sets theirs k (lasts (drop k fields)) = rw (split, add-one k) refl in
+      record { starts_are = starts_left ∙ l.starts_are; ends_are = ends_left ∙ l.ends_are }
 
-pub all_laid : (kept slots₀ slots : List ℕ) (count k : ℕ) → Laying kept count slots₀ slots k → count ≤ k → count ≤ length kept → slots ≡ sets slots₀ 0 (take count kept)
-all_laid kept slots₀ slots count k l h fits =
-    let size : length (take count kept) ≡ count = length-take-le count kept fits in
-    sym (ap (sets slots k) (drop_of_length-le (take count kept) {i = k} (omega arith))) ∙ l.whole
+  pub some_laid : (d : ℕ × ℕ) → k < length fields → Laying fields slots₀ theirs₀ (set slots k (get_or fields k d).0) (set theirs k (get_or fields k d).1) (k + 1)
+  some_laid d h = one_laid (get_or fields k d).0 (get_or fields k d).1 (rw (add-one, drop-cons fields k d))
+
+  module _ (all : length fields ≤ k) where
+    none_left : drop k fields ≡ []
+    none_left = drop_of_length-le fields {i = k} all
+
+    pub starts_laid : slots ≡ sets slots₀ 0 (firsts fields)
+    unfolding firsts
+    starts_laid = sym (ap (λ l. sets slots k (firsts l)) none_left) ∙ l.starts_are
+
+    pub ends_laid : theirs ≡ sets theirs₀ 0 (lasts fields)
+    unfolding lasts
+    ends_laid = sym (ap (λ l. sets theirs k (lasts l)) none_left) ∙ l.ends_are
+
+-- those that were kept of a list, from its front on
+module _ (places : List (ℕ × ℕ)) (count : ℕ) (slots₀ theirs₀ slots theirs : List ℕ) (k : ℕ) (l : Laying (take count places) slots₀ theirs₀ slots theirs k) (fits : count ≤ length places) where
+  pub kept_laid : (d : ℕ × ℕ) → k < count → Laying (take count places) slots₀ theirs₀ (set slots k (get_or places k d).0) (set theirs k (get_or places k d).1) (k + 1)
+  kept_laid d h =
+      rw (← get_or-take count places k d h)
+      (some_laid (take count places) slots₀ theirs₀ slots theirs k l d (omega (arith, length-take-le count places fits)))
+
+  pub starts_kept : count ≤ k → slots ≡ sets slots₀ 0 (firsts (take count places))
+  starts_kept h = starts_laid (take count places) slots₀ theirs₀ slots theirs k l (omega (arith, length-take-le count places fits))
+
+  pub ends_kept : count ≤ k → theirs ≡ sets theirs₀ 0 (lasts (take count places))
+  ends_kept h = ends_laid (take count places) slots₀ theirs₀ slots theirs k l (omega (arith, length-take-le count places fits))

@@ -2,27 +2,28 @@
 use mathlib.Core.Path.{◌≡◌, refl, sym, ap, subst, ◌∙◌}
 use mathlib.Core.Bool.{Bool, true, false, cond}
 use mathlib.Core.List.{List, [], ◌∷◌}
-use Prim.Native.Nat.{ℕ, suc, ◌+◌, ◌-◌, ◌≤◌, ◌<◌}
+use Prim.Native.Nat.{ℕ, ◌+◌, ◌-◌, ◌≤◌, ◌<◌}
 use native.Mathlib.Numerals.{add-one}
 use native.Mathlib.Omega.{arith}
 use borrow.Author.Tests.{ltb-true, ltb-false}
 use lib.Dec.{ltb}
-use lib.ListN.{length, drop, set, length-set}
-use lib.Seq.{drop-drop, set_out, sets}
+use lib.ListN.{length, take, drop, set, length-set}
+use lib.Seq.{drop-drop, set_out, sets, sets-eq, length-sets, take_at}
+use Rattle.std.specs.Prelude.{Option, Some, None, Ok, Err}
 use Rattle.record.specs.declared.Found.{Found}
-use Rattle.record.specs.declared.Found.TheVariants.{Field, Unclosed}
 use Rattle.record.specs.declared.Stop.{Stop}
 use Rattle.record.specs.declared.Stop.TheVariants.{Comma, End, Bad}
-use Rattle.record.specs.declared.Verdict.{Verdict}
+use Rattle.record.specs.declared.Fault.TheVariants.{Stray, Unclosed}
+use Rattle.record.specs.declared.kept.Kept.{Kept}
 use Rattle.record.specs.Scan.{Ending, Reading, up_to, done, bad, unclosed, more, fresh, scan, scanned}
-use Rattle.record.specs.Places.{firsts, lasts}
-use Rattle.record.specs.Steps.{field_at, stop_of, number_of, place_of, comes_to, tally}
+use Rattle.record.specs.Steps.{field_at, stop_of, place_of, outcome, Judged}
 use Rattle.record.proofs.Theorems.Complete.{stops}
+use Rattle.record.proofs.Laws.Inside.{place_inside}
 use Rattle.record.proofs.Laws.Runs.{none_left}
 use Rattle.record.proofs.Laws.Spans.{after_field, field_scan, within, Within}
 
 -- where there is no slot, nothing is set
-pub beyond : (kept : List ℕ) (k x : ℕ) → length kept ≡ 16 → 16 ≤ k → kept ≡ set kept k x
+pub beyond : (kept : List (ℕ × ℕ)) (k : ℕ) (x : ℕ × ℕ) → length kept ≡ 16 → 16 ≤ k → kept ≡ set kept k x
 beyond kept k x sixteen h = sym (set_out kept k x (omega arith))
 
 -- what is read where a field has ended
@@ -44,31 +45,32 @@ abbrev pub from : (text : List ℕ) (at : ℕ) → Reading
 from text at = scan (drop at text) fresh at
 
 -- a field was found, and what stands behind it
-pub step_scan : (text : List ℕ) (at a e n : ℕ) → field_at text at ≡ Field a e n → from text at ≡ after_stop (stop_of n (drop n text)) n (a, e) (from text (n + 1))
-step_scan text at a e n is =
-    field_scan text at ∙ ap (after_field text at) is ∙ stops_stop (drop n text) (a, e) n
-    ∙ ap (λ r. after_stop (stop_of n (drop n text)) n (a, e) (scan r fresh (n + 1))) (drop-drop 1 n text)
+pub step_scan : (text : List ℕ) (at : ℕ) (f : Found) → field_at text at ≡ Some f
+    → from text at ≡ after_stop (stop_of f.next (drop f.next text)) f.next (f.start, f.end) (from text (f.next + 1))
+step_scan text at f is =
+    field_scan text at ∙ ap (after_field text at) is ∙ stops_stop (drop f.next text) (f.start, f.end) f.next
+    ∙ ap (λ r. after_stop (stop_of f.next (drop f.next text)) f.next (f.start, f.end) (scan r fresh (f.next + 1))) (drop-drop 1 f.next text)
 
 -- a field lies inside the text, and a comma behind it does too
-pub bounds : (text : List ℕ) (at a e n : ℕ) (r : Found) → at ≤ length text → r ≡ field_at text at → r ≡ Field a e n
-    → (at ≤ a) × (a ≤ e) × (e ≤ n) × (n ≤ length text)
-bounds text at a e n r h is found = subst (Within text at) (sym is ∙ found) (within text at h)
+pub bounds : (text : List ℕ) (at : ℕ) (f : Found) (r : Option Found) → at ≤ length text → r ≡ field_at text at → r ≡ Some f
+    → (at ≤ f.start) × (f.start ≤ f.end) × (f.end ≤ f.next) × (f.next ≤ length text)
+bounds text at f r h is found = subst (Within text at) (sym is ∙ found) (within text at h)
 
-module _ (text : List ℕ) (at a e n : ℕ) (r : Found) (h : at ≤ length text) (is : r ≡ field_at text at) (found : r ≡ Field a e n) where
-  pub next_inside : n ≤ length text
-  next_inside = (bounds text at a e n r h is found).3
+module _ (text : List ℕ) (at : ℕ) (f : Found) (r : Option Found) (h : at ≤ length text) (is : r ≡ field_at text at) (found : r ≡ Some f) where
+  pub next_inside : f.next ≤ length text
+  next_inside = (bounds text at f r h is found).3
 
-  pub start_fits : length text ≤ 65535 → a < 4294967296
-  start_fits short = let b = bounds text at a e n r h is found in omega arith
+  pub start_fits : length text ≤ 65535 → f.start < 4294967296
+  start_fits short = let b = bounds text at f r h is found in omega arith
 
-  pub end_fits : length text ≤ 65535 → e < 4294967296
-  end_fits short = let b = bounds text at a e n r h is found in omega arith
+  pub end_fits : length text ≤ 65535 → f.end < 4294967296
+  end_fits short = let b = bounds text at f r h is found in omega arith
 
-  pub next_fits : length text ≤ 65535 → n + 1 < 18446744073709551616
-  next_fits short = let b = bounds text at a e n r h is found in omega arith
+  pub stray_fits : length text ≤ 65535 → f.next < 4294967296
+  stray_fits short = let b = bounds text at f r h is found in omega arith
 
-  pub count_next : (k : ℕ) → k ≤ at → k + 1 ≤ n + 1
-  count_next k le = let b = bounds text at a e n r h is found in omega arith
+  pub next_fits : length text ≤ 65535 → f.next + 1 < 18446744073709551616
+  next_fits short = let b = bounds text at f r h is found in omega arith
 
 pub comma_inside : (text : List ℕ) (n : ℕ) (r : Stop) → r ≡ stop_of n (drop n text) → r ≡ Comma → n < length text
 comma_inside text n r is found = go (ltb n (length text)) refl
@@ -79,109 +81,111 @@ comma_inside text n r is found = go (ltb n (length text)) refl
         let x : Comma ≡ End n = sym found ∙ is ∙ ap (stop_of n) (none_left text n (ltb-false n (length text) e)) in
         absurd (let z : ◌≡◌ {A = ℕ} 0 1 = cc in omega arith)
 
-pub comma_next : (text : List ℕ) (n : ℕ) (r : Stop) → r ≡ stop_of n (drop n text) → r ≡ Comma → n + 1 ≤ length text
-comma_next text n r is found = omega (arith, comma_inside text n r is found)
-
-pub less_next : (text : List ℕ) (at a e n : ℕ) (r : Found) (st : Stop) → at ≤ length text → r ≡ field_at text at → r ≡ Field a e n → st ≡ stop_of n (drop n text) → st ≡ Comma
-    → length text - (n + 1) < length text - at
-less_next text at a e n r st h is found st_is st_found =
-    let b = bounds text at a e n r h is found in
-    let c = comma_inside text n st st_is st_found in
+pub less_next : (text : List ℕ) (at : ℕ) (f : Found) (r : Option Found) (st : Stop) → at ≤ length text → r ≡ field_at text at → r ≡ Some f
+    → st ≡ stop_of f.next (drop f.next text) → st ≡ Comma → length text - (f.next + 1) < length text - at
+less_next text at f r st h is found st_is st_found =
+    let b = bounds text at f r h is found in
+    let c = comma_inside text f.next st st_is st_found in
     omega arith
 
--- k fields were counted, and their places kept
-pub record Passed (text slots₀ theirs₀ slots theirs : List ℕ) (at k : ℕ) : Type 0 where
+-- some fields were counted, and the places of the first sixteen kept
+pub record Passed (text : List ℕ) (empty kept : Kept) (at : ℕ) : Type 0 where
   pub inside : at ≤ length text
-  pub few : k ≤ at
-  pub counted : tally k (from text at) ≡ tally 0 (scanned text)
-  pub same : length slots ≡ length slots₀
-  pub same_too : length theirs ≡ length theirs₀
-  pub starts_are : sets slots k (firsts (from text at).fields) ≡ sets slots₀ 0 (firsts (scanned text).fields)
-  pub ends_are : sets theirs k (lasts (from text at).fields) ≡ sets theirs₀ 0 (lasts (scanned text).fields)
+  pub few : kept.count ≤ at
+  pub counted : kept.count + length (from text at).fields ≡ length (scanned text).fields
+  pub comes_to : (from text at).ending ≡ (scanned text).ending
+  pub sixteen : length kept.places ≡ 16
+  pub whole : sets kept.places kept.count (from text at).fields ≡ sets empty.places 0 (scanned text).fields
+  pub sixteen_too : length empty.places ≡ 16
 
-pub none_passed : (text slots theirs : List ℕ) → Passed text slots theirs slots theirs 0 0
-none_passed text slots theirs =
-    record { inside = omega arith; few = omega arith; counted = refl; same = refl; same_too = refl; starts_are = refl; ends_are = refl }
+-- the places kept, with the count while it is a local
+abbrev pub with_count : Kept → ℕ → Kept
+with_count kept count = record { places = kept.places; count = count }
 
-tally_more : (k : ℕ) (f : ℕ × ℕ) (r : Reading) → tally k (more f r) ≡ tally (k + 1) r
-tally_more k f r = let e : k + suc (length r.fields) ≡ k + 1 + length r.fields = omega arith in rw e refl
+pub none_passed : (text : List ℕ) (kept : Kept) → length kept.places ≡ 16 → Passed text kept (with_count kept 0) 0
+none_passed text kept sixteen =
+    record { inside = omega arith; few = omega arith; counted = omega arith; comes_to = refl; sixteen = sixteen; whole = refl; sixteen_too = sixteen }
 
-module _ (text slots₀ theirs₀ slots theirs : List ℕ) (at k : ℕ) (p : Passed text slots₀ theirs₀ slots theirs at k) (r : Found) (r_is : r ≡ field_at text at) where
+-- what was kept of a record with no more than sixteen fields is all of it
+all_kept : (l zeros kept : List (ℕ × ℕ)) (count : ℕ) → kept ≡ sets zeros 0 l → count ≡ length l → count ≤ length zeros → take count kept ≡ l
+all_kept l zeros kept count is counted fits =
+    ap (take count) (is ∙ sets-eq l zeros 0 (omega arith)) ∙ take_at l (drop (0 + length l) zeros) count (sym counted)
+
+judged : (text : List ℕ) (empty kept : Kept) → length text ≤ 65535 → kept.count ≡ length (scanned text).fields → length empty.places ≡ 16
+    → kept.places ≡ sets empty.places 0 (scanned text).fields → Judged text kept
+judged text empty kept short counted sixteen are = record {
+  short = short;
+  counted = counted;
+  sixteen = ap length are ∙ length-sets empty.places 0 (scanned text).fields ∙ sixteen;
+  kept_well = λ few. all_kept (scanned text).fields empty.places kept.places kept.count are counted (omega arith);
+}
+
+module _ (text : List ℕ) (empty kept : Kept) (at : ℕ) (p : Passed text empty kept at) (r : Option Found) (r_is : r ≡ field_at text at) where
   -- a quote that is never closed: nothing more is kept
-  module _ (unclosed_there : r ≡ Unclosed) where
+  module _ (unclosed_there : r ≡ None) where
     ends_there : from text at ≡ up_to [] (unclosed at)
     ends_there = field_scan text at ∙ ap (after_field text at) (sym r_is ∙ unclosed_there)
 
-    pub unclosed_verdict : (v : Verdict) → v ≡ comes_to 10 k at → v ≡ tally 0 (scanned text)
-    unclosed_verdict v e = let z : k + 0 ≡ k = omega arith in e ∙ sym (sym p.counted ∙ ap (tally k) ends_there ∙ rw z refl)
+    pub unclosed_outcome : Err (Unclosed at) ≡ outcome (scanned text).ending
+    unclosed_outcome = ap outcome (sym (ap (λ (r : Reading). r.ending) ends_there) ∙ p.comes_to)
 
-    pub unclosed_starts : slots ≡ sets slots₀ 0 (firsts (scanned text).fields)
-    unfolding firsts
-    unclosed_starts = sym (ap (λ (r : Reading). sets slots k (firsts r.fields)) ends_there) ∙ p.starts_are
-
-    pub unclosed_ends : theirs ≡ sets theirs₀ 0 (lasts (scanned text).fields)
-    unfolding lasts
-    unclosed_ends = sym (ap (λ (r : Reading). sets theirs k (lasts r.fields)) ends_there) ∙ p.ends_are
+    pub unclosed_judged : length text ≤ 65535 → Judged text kept
+    unclosed_judged short =
+        let fields_are : (from text at).fields ≡ [] = ap (λ (r : Reading). r.fields) ends_there in
+        judged text empty kept short (omega (arith, p.counted, ap length fields_are)) p.sixteen_too (sym (ap (sets kept.places kept.count) fields_are) ∙ p.whole)
 
   -- a field, which is kept
-  module _ (a e n : ℕ) (found : r ≡ Field a e n) (slots' theirs' : List ℕ) (set_start : slots' ≡ set slots k a) (set_end : theirs' ≡ set theirs k e)
-      (st : Stop) (st_is : st ≡ stop_of n (drop n text)) where
-    stepped : (x : Stop) → st ≡ x → from text at ≡ after_stop x n (a, e) (from text (n + 1))
-    stepped x st_x = step_scan text at a e n (sym r_is ∙ found) ∙ ap (λ x. after_stop x n (a, e) (from text (n + 1))) (sym st_is ∙ st_x)
+  module _ (f : Found) (found : r ≡ Some f) (kept' : Kept) (placed : kept'.places ≡ set kept.places kept.count (f.start, f.end)) (one : kept'.count ≡ kept.count + 1)
+      (st : Stop) (st_is : st ≡ stop_of f.next (drop f.next text)) where
+    stepped : (x : Stop) → st ≡ x → from text at ≡ after_stop x f.next (f.start, f.end) (from text (f.next + 1))
+    stepped x st_x = step_scan text at f (sym r_is ∙ found) ∙ ap (λ x. after_stop x f.next (f.start, f.end) (from text (f.next + 1))) (sym st_is ∙ st_x)
 
     -- the field's place was kept, and the others' are left
-    starts_left : (fields : List (ℕ × ℕ)) → (from text at).fields ≡ (a, e) ∷ fields → sets slots' (k + 1) (firsts fields) ≡ sets slots₀ 0 (firsts (scanned text).fields)
-    unfolding firsts
-    starts_left fields is = rw (set_start, add-one k) (sym (ap (λ (l : List (ℕ × ℕ)). sets slots k (firsts l)) is) ∙ p.starts_are)
-
-    ends_left : (fields : List (ℕ × ℕ)) → (from text at).fields ≡ (a, e) ∷ fields → sets theirs' (k + 1) (lasts fields) ≡ sets theirs₀ 0 (lasts (scanned text).fields)
-    unfolding lasts
-    ends_left fields is = rw (set_end, add-one k) (sym (ap (λ (l : List (ℕ × ℕ)). sets theirs k (lasts l)) is) ∙ p.ends_are)
+    others : (fields : List (ℕ × ℕ)) → (from text at).fields ≡ (f.start, f.end) ∷ fields → sets kept'.places kept'.count fields ≡ sets empty.places 0 (scanned text).fields
+    others fields is = rw (placed, one, add-one kept.count) (sym (ap (sets kept.places kept.count) is) ∙ p.whole)
 
     -- a comma: one field more
-    pub comma_passed : st ≡ Comma → Passed text slots₀ theirs₀ slots' theirs' (n + 1) (k + 1)
+    pub comma_passed : st ≡ Comma → Passed text empty kept' (f.next + 1)
     comma_passed x =
-        let step : from text at ≡ more (a, e) (from text (n + 1)) = stepped Comma x in
-        let fields_are : (from text at).fields ≡ (a, e) ∷ (from text (n + 1)).fields = ap (λ (r : Reading). r.fields) step in
+        let step : from text at ≡ more (f.start, f.end) (from text (f.next + 1)) = stepped Comma x in
+        let fields_are : (from text at).fields ≡ (f.start, f.end) ∷ (from text (f.next + 1)).fields = ap (λ (r : Reading). r.fields) step in
+        let b = bounds text at f r p.inside r_is found in
+        let c = comma_inside text f.next st st_is x in
         record {
-          inside = comma_next text n st st_is x;
-          few = count_next text at a e n r p.inside r_is found k p.few;
-          counted = sym (ap (tally k) step ∙ tally_more k (a, e) (from text (n + 1))) ∙ p.counted;
-          same = ap length set_start ∙ length-set slots k a ∙ p.same;
-          same_too = ap length set_end ∙ length-set theirs k e ∙ p.same_too;
-          starts_are = starts_left (from text (n + 1)).fields fields_are;
-          ends_are = ends_left (from text (n + 1)).fields fields_are;
+          inside = omega arith;
+          few = omega (arith, one, p.few);
+          counted = omega (arith, one, p.counted, ap length fields_are);
+          comes_to = sym (ap (λ (r : Reading). r.ending) step) ∙ p.comes_to;
+          sixteen = ap length placed ∙ length-set kept.places kept.count (f.start, f.end) ∙ p.sixteen;
+          whole = others (from text (f.next + 1)).fields fields_are;
+          sixteen_too = p.sixteen_too;
         }
 
     -- the record's end, or a byte that may not stand there: it was the last
-    module _ (ending : Ending) (last : from text at ≡ up_to ((a, e) ∷ []) ending) where
-      last_verdict : tally 0 (scanned text) ≡ comes_to (number_of ending) (k + 1) (place_of ending)
-      last_verdict = sym p.counted ∙ ap (tally k) last
+    module _ (ending : Ending) (last : from text at ≡ up_to ((f.start, f.end) ∷ []) ending) where
+      last_outcome : outcome ending ≡ outcome (scanned text).ending
+      last_outcome = ap outcome (sym (ap (λ (r : Reading). r.ending) last) ∙ p.comes_to)
 
-      last_starts : slots' ≡ sets slots₀ 0 (firsts (scanned text).fields)
-      unfolding firsts
-      last_starts = starts_left [] (ap (λ (r : Reading). r.fields) last)
-
-      last_ends : theirs' ≡ sets theirs₀ 0 (lasts (scanned text).fields)
-      unfolding lasts
-      last_ends = ends_left [] (ap (λ (r : Reading). r.fields) last)
+      last_judged : length text ≤ 65535 → Judged text kept'
+      last_judged short =
+          let fields_are : (from text at).fields ≡ (f.start, f.end) ∷ [] = ap (λ (r : Reading). r.fields) last in
+          judged text empty kept' short (omega (arith, one, p.counted, ap length fields_are)) p.sixteen_too (others [] fields_are)
 
     module _ (m : ℕ) (x : st ≡ End m) where
-      pub end_verdict : (v : Verdict) → v ≡ comes_to 0 (k + 1) m → v ≡ tally 0 (scanned text)
-      end_verdict v e = e ∙ sym (last_verdict (done m) (stepped (End m) x))
+      pub end_outcome : Ok m ≡ outcome (scanned text).ending
+      end_outcome = last_outcome (done m) (stepped (End m) x)
 
-      pub end_starts : slots' ≡ sets slots₀ 0 (firsts (scanned text).fields)
-      end_starts = last_starts (done m) (stepped (End m) x)
+      pub after_fits : length text ≤ 65535 → m < 4294967296
+      after_fits short =
+          let last : from text at ≡ up_to ((f.start, f.end) ∷ []) (done m) = stepped (End m) x in
+          omega (arith, place_inside text, ap place_of (sym (ap (λ (r : Reading). r.ending) last) ∙ p.comes_to))
 
-      pub end_ends : theirs' ≡ sets theirs₀ 0 (lasts (scanned text).fields)
-      end_ends = last_ends (done m) (stepped (End m) x)
+      pub end_judged : length text ≤ 65535 → Judged text kept'
+      end_judged = last_judged (done m) (stepped (End m) x)
 
     module _ (x : st ≡ Bad) where
-      pub bad_verdict : (v : Verdict) → v ≡ comes_to 9 (k + 1) n → v ≡ tally 0 (scanned text)
-      bad_verdict v e = e ∙ sym (last_verdict (bad n) (stepped Bad x))
+      pub bad_outcome : Err (Stray f.next) ≡ outcome (scanned text).ending
+      bad_outcome = last_outcome (bad f.next) (stepped Bad x)
 
-      pub bad_starts : slots' ≡ sets slots₀ 0 (firsts (scanned text).fields)
-      bad_starts = last_starts (bad n) (stepped Bad x)
-
-      pub bad_ends : theirs' ≡ sets theirs₀ 0 (lasts (scanned text).fields)
-      bad_ends = last_ends (bad n) (stepped Bad x)
+      pub bad_judged : length text ≤ 65535 → Judged text kept'
+      bad_judged = last_judged (bad f.next) (stepped Bad x)

@@ -5,13 +5,17 @@ use mathlib.Core.List.{List, [], ◌∷◌}
 use Prim.Native.Nat.{ℕ, zero, suc, ◌+◌, ◌-◌, ◌≤◌, ◌<◌}
 use native.Mathlib.Numerals.{add-one}
 use native.Mathlib.Omega.{arith}
-use borrow.Author.Tests.{eq-eqb, ne_eqb, ltb-true, ltb-false}
+use borrow.Author.Tests.{ltb-true, ltb-false}
 use lib.Dec.{eqb, ltb}
 use lib.ListN.{length, get_or, take, drop, drop_of_length-le, length-drop}
-use lib.Seq.{drop-cons, drop-drop, get_or-drop}
+use Rattle.std.proofs.lemmas.List.{take_all}
+use lib.Seq.{drop-cons, drop-drop}
 use Rattle.record.specs.Grammar.{quote}
 use Rattle.record.specs.Scan.{starts}
-use Rattle.record.specs.Steps.{run, any, is_quote, body_run, pair_run}
+use Rattle.std.specs.List.{list_any, position, position_or_len}
+use Rattle.std.specs.Prelude.{Option, Some, None, unwrap_or}
+use Rattle.std.proofs.lemmas.List.Recursion.{is_position_or_len}
+use Rattle.record.specs.Steps.{run, is_quote, body_run, pair_run}
 
 pub left : (s : List ℕ) (i : ℕ) → i < length s → drop i s ≡ get_or s i 0 ∷ drop (i + 1) s
 left s i h = rw (add-one, drop-cons s i 0)
@@ -37,18 +41,54 @@ inside s i b e = go (ltb i (length s)) refl
     go true p = ltb-true i (length s) p
     go false p = absurd (no_two (sym e ∙ sym (stands_none s i b (ltb-false i (length s) p))))
 
--- A run goes on at a byte that does not end it, and stops at one that does, or where nothing is left.
+-- a run is what the library's search by position counts
+pub run_is : (ends : ℕ → Bool) (s : List ℕ) → run ends s ≡ position_or_len ends s
+unfolding run
+run_is ends s = is_position_or_len (run ends) ends refl (λ b s. go (ends b) (run ends s)) s
+  where
+    go : (c : Bool) (n : ℕ) → cond c 0 (n + 1) ≡ cond c 0 (1 + n)
+    go true n = refl
+    go false n = omega arith
+
+pub run_short : (ends : ℕ → Bool) (s : List ℕ) → run ends s ≤ length s
+unfolding run
+run_short ends [] = omega arith
+run_short ends (b ∷ s) = go (ends b) (run_short ends s)
+  where
+    go : (c : Bool) → run ends s ≤ length s → cond c 0 (run ends s + 1) ≤ suc (length s)
+    go true h = omega arith
+    go false h = omega arith
+
+-- the library's search by position, with the length where nothing is found
+run_left : (ends : ℕ → Bool) (s : List ℕ) → unwrap_or (position ends s) (length s) ≡ run ends s
+run_left ends s = go (ltb (position_or_len ends s) (length s)) refl
+  where
+    go : (c : Bool) → ltb (position_or_len ends s) (length s) ≡ c → unwrap_or (cond c (Some (position_or_len ends s)) None) (length s) ≡ run ends s
+    go true e = sym (run_is ends s)
+    go false e = omega (arith, ltb-false _ _ e, run_is ends s, run_short ends s)
+
+-- the rest of a text, as the code lends it
+rest : (s : List ℕ) (i : ℕ) → i ≤ length s → take (length s - i) (drop i s) ≡ drop i s
+rest s i h = take_all (length s - i) (drop i s) (omega (arith, length-drop i s))
+
+pub found_end : (ends : ℕ → Bool) (s : List ℕ) (i n : ℕ) (o : Option ℕ) → i ≤ length s → o ≡ position ends (take (length s - i) (drop i s)) → n ≡ unwrap_or o (length s - i)
+    → i + n ≡ i + run ends (drop i s)
+found_end ends s i n o h found e =
+    let size : length s - i ≡ length (drop i s) = omega (arith, length-drop i s) in
+    ap (λ n. i + n) (e ∙ rw (found, rest s i h, size) (run_left ends (drop i s)))
+
+-- a byte that does not end a run, one that does, and the end of the text
 module _ (ends : ℕ → Bool) (s : List ℕ) (i v : ℕ) (is : i + run ends (drop i s) ≡ v) where
-  pub run_turn : (d : Bool) → i < length s → d ≡ ends (get_or s i 0) → d ≡ false → i + 1 + run ends (drop (i + 1) s) ≡ v
+  pub run_turn : i < length s → ends (get_or s i 0) ≡ false → i + 1 + run ends (drop (i + 1) s) ≡ v
   unfolding run
-  run_turn d h e goes_on =
-      let one : run ends (drop i s) ≡ run ends (drop (i + 1) s) + 1 = ap (run ends) (left s i h) ∙ rw (sym e ∙ goes_on) refl in
+  run_turn h goes_on =
+      let one : run ends (drop i s) ≡ run ends (drop (i + 1) s) + 1 = ap (run ends) (left s i h) ∙ rw goes_on refl in
       omega arith
 
-  pub run_stop : (d : Bool) → i < length s → d ≡ ends (get_or s i 0) → d ≡ true → i ≡ v
+  pub run_stop : i < length s → ends (get_or s i 0) ≡ true → i ≡ v
   unfolding run
-  run_stop d h e stops =
-      let none : run ends (drop i s) ≡ 0 = ap (run ends) (left s i h) ∙ rw (sym e ∙ stops) refl in
+  run_stop h stops =
+      let none : run ends (drop i s) ≡ 0 = ap (run ends) (left s i h) ∙ rw stops refl in
       omega arith
 
   pub run_over : length s ≤ i → i ≡ v
@@ -58,45 +98,23 @@ module _ (ends : ℕ → Bool) (s : List ℕ) (i v : ℕ) (is : i + run ends (dr
       omega arith
 
 -- a block of bytes none of which ends it is passed at once
-none_among : (ends : ℕ → Bool) (k : ℕ) (s : List ℕ) → k ≤ length s → any ends (take k s) ≡ false → run ends s ≡ k + run ends (drop k s)
-unfolding run any
+none_among : (ends : ℕ → Bool) (k : ℕ) (s : List ℕ) → k ≤ length s → list_any ends (take k s) ≡ false → run ends s ≡ k + run ends (drop k s)
+unfolding run
 none_among ends zero s h e = omega arith
 none_among ends (suc k) [] h e = absurd (omega arith)
 none_among ends (suc k) (b ∷ s) h e = go (ends b) refl (none_among ends k s (omega arith))
   where
-    go : (c : Bool) → ends b ≡ c → (any ends (take k s) ≡ false → run ends s ≡ k + run ends (drop k s)) → run ends (b ∷ s) ≡ suc k + run ends (drop k s)
-    go true p later = absurd (no_two (sym (ap (λ c. c || any ends (take k s)) p) ∙ e))
-    go false p later = let rest = later (sym (ap (λ c. c || any ends (take k s)) p) ∙ e) in rw p (omega arith)
+    go : (c : Bool) → ends b ≡ c → (list_any ends (take k s) ≡ false → run ends s ≡ k + run ends (drop k s)) → run ends (b ∷ s) ≡ suc k + run ends (drop k s)
+    go true p later = absurd (no_two (sym (ap (λ c. c || list_any ends (take k s)) p) ∙ e))
+    go false p later = let rest = later (sym (ap (λ c. c || list_any ends (take k s)) p) ∙ e) in rw p (omega arith)
 
-pub run_block : (ends : ℕ → Bool) (s : List ℕ) (i v k : ℕ) (d : Bool) → i + run ends (drop i s) ≡ v → i ≤ length s → k ≤ length s - i
-    → d ≡ any ends (take k (drop i s)) → d ≡ false → i + k + run ends (drop (i + k) s) ≡ v
-run_block ends s i v k d is low h e clear =
-    let block : run ends (drop i s) ≡ k + run ends (drop k (drop i s)) = none_among ends k (drop i s) (omega (arith, length-drop i s)) (sym e ∙ clear) in
+pub run_block : (ends : ℕ → Bool) (s : List ℕ) (i v k n : ℕ) (d : Bool) → i + run ends (drop i s) ≡ v → i ≤ length s → k ≤ length s - i
+    → d ≡ list_any ends (take n (drop i s)) → d ≡ false → n ≡ k → i + k + run ends (drop (i + k) s) ≡ v
+run_block ends s i v k n d is low h e clear same_size =
+    let block : run ends (drop i s) ≡ k + run ends (drop k (drop i s)) =
+    none_among ends k (drop i s) (omega (arith, length-drop i s)) (sym (e ∙ ap (λ n. list_any ends (take n (drop i s))) same_size) ∙ clear) in
     let same : run ends (drop k (drop i s)) ≡ run ends (drop (i + k) s) = ap (run ends) (drop-drop k i s) in
     omega arith
-
--- one byte more of a block
-pub any_none : (ends : ℕ → Bool) (s : List ℕ) → false ≡ any ends (take 0 s)
-unfolding any
-any_none ends s = refl
-
-or_false : (c : Bool) → c || false ≡ c
-or_false true = refl
-or_false false = refl
-
-or_or : (x y z : Bool) → x || (y || z) ≡ (x || y) || z
-or_or true y z = refl
-or_or false y z = refl
-
-any_more : (ends : ℕ → Bool) (j : ℕ) (s : List ℕ) → j < length s → any ends (take (suc j) s) ≡ any ends (take j s) || ends (get_or s j 0)
-unfolding any
-any_more ends j [] h = absurd (omega arith)
-any_more ends zero (b ∷ s) h = or_false (ends b)
-any_more ends (suc j) (b ∷ s) h = ap (λ c. ends b || c) (any_more ends j s (omega arith)) ∙ or_or (ends b) (any ends (take j s)) (ends (get_or s j 0))
-
-pub any_one : (ends : ℕ → Bool) (s : List ℕ) (at j k : ℕ) (d : Bool) → at + k ≤ length s → j < k → d ≡ any ends (take j (drop at s))
-    → d || ends (get_or s (at + j) 0) ≡ any ends (take (j + 1) (drop at s))
-any_one ends s at j k d h low e = sym (rw (add-one j) (any_more ends j (drop at s) (omega (arith, length-drop at s)) ∙ rw (e, get_or-drop at s j 0) refl))
 
 -- Between quotes: a run without a quote, then a quote and another one, or the quote that closes the field.
 none_passed : (n : ℕ) (s : List ℕ) → n ≡ 0 → body_run s ≡ n + body_run (drop n s)
@@ -127,15 +145,6 @@ quote_ends (b ∷ s) h = go (is_quote b) refl (quote_ends s)
         → starts quote (drop (run is_quote (b ∷ s)) (b ∷ s)) ≡ true
     go true e later = rw e e
     go false e later = rw (e, add-one (run is_quote s)) (later (omega (arith, rw e at h)))
-
-pub run_short : (ends : ℕ → Bool) (s : List ℕ) → run ends s ≤ length s
-unfolding run
-run_short ends [] = omega arith
-run_short ends (b ∷ s) = go (ends b) (run_short ends s)
-  where
-    go : (c : Bool) → run ends s ≤ length s → cond c 0 (run ends s + 1) ≤ suc (length s)
-    go true h = omega arith
-    go false h = omega arith
 
 -- a run ends inside the text, at a quote or at the end
 pub run_inside : (ends : ℕ → Bool) (s : List ℕ) (i j : ℕ) → i ≤ length s → j ≡ i + run ends (drop i s) → (i ≤ j) × (j ≤ length s)
@@ -174,39 +183,39 @@ at_next s i j v h is e = record { inside = (run_inside is_quote s i j h e).1; th
 pub quoted_first : (s : List ℕ) (i j : ℕ) → i ≤ length s → j ≡ i + run is_quote (drop i s) → Quoted s j (i + body_run (drop i s))
 quoted_first s i j h e = at_next s i j (i + body_run (drop i s)) h refl e
 
-module _ (s : List ℕ) (i v : ℕ) (q : Quoted s i v) (h : i < length s) (d : Bool) (e : d ≡ starts quote (drop (i + 1) s)) where
-  pub quoted_stop : d ≡ false → i ≡ v
-  quoted_stop single =
-      let none : body_run (drop i s) ≡ 0 = pair_of s i h (q.there h) ∙ pair_none _ (sym e ∙ single) in
-      omega (arith, q.left)
-
-  module _ (double : d ≡ true) where
-    pub pair_inside : i + 1 + 1 ≤ length s
-    pair_inside = omega (arith, inside s (i + 1) quote (sym e ∙ double))
-
-    module _ (j : ℕ) (found : j ≡ i + 1 + 1 + run is_quote (drop (i + 1 + 1) s)) where
-      pub quoted_again : Quoted s j v
-      quoted_again =
-          let two : body_run (drop i s) ≡ body_run (drop (i + 1 + 1) s) + 2 =
-          pair_of s i h (q.there h) ∙ pair_some s (i + 1) (sym e ∙ double) (inside s (i + 1) quote (sym e ∙ double)) in
-          at_next s (i + 1 + 1) j v pair_inside (omega (arith, q.left)) found
-
-      pub quoted_less : length s - j < length s - i
-      quoted_less = omega (arith, (run_inside is_quote s (i + 1 + 1) j pair_inside found).0)
-
-pub quoted_over : (s : List ℕ) (i v : ℕ) → Quoted s i v → length s ≤ i → i ≡ v
+quoted_over : (s : List ℕ) (i v : ℕ) → Quoted s i v → length s ≤ i → i ≡ v
 unfolding body_run
 quoted_over s i v q h =
     let none : body_run (drop i s) ≡ 0 = ap body_run (none_left s i h) in
     omega (arith, q.left)
 
-pub block_all : (ends : ℕ → Bool) (s : List ℕ) (at j : ℕ) (d : Bool) → j ≤ 16 → 16 ≤ j → d ≡ any ends (take j (drop at s)) → d ≡ any ends (take 16 (drop at s))
-block_all ends s at j d h g e = let same : j ≡ 16 = omega arith in rw same at e
+quoted_last : (s : List ℕ) (i v : ℕ) → Quoted s i v → i < length s → starts quote (drop (i + 1) s) ≡ false → i ≡ v
+quoted_last s i v q h single =
+    let none : body_run (drop i s) ≡ 0 = pair_of s i h (q.there h) ∙ pair_none _ single in
+    omega (arith, q.left)
 
--- as the code tells a quote
-module _ (s : List ℕ) (i v : ℕ) (is : i + run is_quote (drop i s) ≡ v) (h : i < length s) where
-  pub quote_stop : get_or s i 0 ≡ 34 → i ≡ v
-  quote_stop e = run_stop is_quote s i v is _ h refl (eq-eqb _ quote e)
+module _ (s : List ℕ) (i v : ℕ) (q : Quoted s i v) (d : Bool) (e : d ≡ starts quote (drop (i + 1) s)) where
+  pub quoted_stop : d ≡ false → i ≡ v
+  quoted_stop single = go (ltb i (length s)) refl
+    where
+      go : (c : Bool) → ltb i (length s) ≡ c → i ≡ v
+      go true p = quoted_last s i v q (ltb-true i (length s) p) (sym e ∙ single)
+      go false p = quoted_over s i v q (ltb-false i (length s) p)
 
-  pub quote_turn : (get_or s i 0 ≡ 34 → ⊥) → i + 1 + run is_quote (drop (i + 1) s) ≡ v
-  quote_turn e = run_turn is_quote s i v is _ h refl (ne_eqb _ quote e)
+  module _ (double : d ≡ true) where
+    second : i + 1 < length s
+    second = inside s (i + 1) quote (sym e ∙ double)
+
+    pub pair_inside : i + 2 ≤ length s
+    pair_inside = omega (arith, second)
+
+    module _ (j : ℕ) (found : j ≡ i + 2 + run is_quote (drop (i + 2) s)) where
+      pub quoted_again : Quoted s j v
+      quoted_again =
+          let same : i + 1 + 1 ≡ i + 2 = omega arith in
+          let two : body_run (drop i s) ≡ body_run (drop (i + 2) s) + 2 =
+          pair_of s i (omega (arith, second)) (q.there (omega (arith, second))) ∙ pair_some s (i + 1) (sym e ∙ double) second ∙ ap (λ n. body_run (drop n s) + 2) same in
+          at_next s (i + 2) j v pair_inside (omega (arith, q.left)) found
+
+      pub quoted_less : length s - j < length s - i
+      quoted_less = omega (arith, second, (run_inside is_quote s (i + 2) j pair_inside found).0)

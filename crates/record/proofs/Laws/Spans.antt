@@ -10,10 +10,10 @@ use lib.Dec.{eqb, ltb}
 use lib.ListN.{length, get_or, drop, length-drop}
 use lib.Seq.{drop-drop}
 use Rattle.record.specs.declared.Found.{Found}
-use Rattle.record.specs.declared.Found.TheVariants.{Field, Unclosed}
+use Rattle.std.specs.Prelude.{Option, Some, None}
 use Rattle.record.specs.Grammar.{quote}
 use Rattle.record.specs.Scan.{Reading, up_to, unclosed, special, starts, fresh, plain, quoted, scan}
-use Rattle.record.specs.Steps.{run, body_run, quoted_at, plain_at, field_at}
+use Rattle.record.specs.Steps.{run, body_run, found, quoted_at, plain_at, field_at}
 use Rattle.record.proofs.Theorems.Complete.{stops}
 use Rattle.record.proofs.Laws.Runs.{left, stands_at, inside, run_short}
 
@@ -85,11 +85,11 @@ quoted_scan (b ∷ []) q at = quoted_last b q at (eqb b quote) refl
 quoted_scan (b ∷ c ∷ s) q at = quoted_next b c s q at (eqb b quote) (eqb c quote) refl refl (quoted_scan (c ∷ s) q (at + 1)) (quoted_scan s q (at + 1 + 1))
 
 -- what is read behind the field that was found at a place
-abbrev pub after_field : (text : List ℕ) (at : ℕ) → Found → Reading
-after_field text at (Field a e next) = stops (drop next text) (a, e) next
-after_field text at Unclosed = up_to [] (unclosed at)
+abbrev pub after_field : (text : List ℕ) (at : ℕ) → Option Found → Reading
+after_field text at (Some f) = stops (drop f.next text) (f.start, f.end) f.next
+after_field text at None = up_to [] (unclosed at)
 
-after_pick : (text : List ℕ) (at : ℕ) (c : Bool) (x y : Found) → cond c (after_field text at x) (after_field text at y) ≡ after_field text at (cond c x y)
+after_pick : (text : List ℕ) (at : ℕ) (c : Bool) (x y : Option Found) → cond c (after_field text at x) (after_field text at y) ≡ after_field text at (cond c x y)
 after_pick text at true x y = refl
 after_pick text at false x y = refl
 
@@ -102,7 +102,7 @@ quoted_after text q =
     (stops r (q + 1, q + 1 + body_run (drop (q + 1) text)) (q + 1 + body_run (drop (q + 1) text) + 1)) (up_to [] (unclosed q)))
     (drop-drop (body_run (drop (q + 1) text) + 1) (q + 1) text ∙ ap (λ m. drop m text) further)
     ∙ after_pick text q (ltb (body_run (drop (q + 1) text)) (length (drop (q + 1) text)))
-    (Field (q + 1) (q + 1 + body_run (drop (q + 1) text)) (q + 1 + body_run (drop (q + 1) text) + 1)) Unclosed
+    (Some (found (q + 1) (q + 1 + body_run (drop (q + 1) text)) (q + 1 + body_run (drop (q + 1) text) + 1))) None
 
 plain_after : (text : List ℕ) (at : ℕ) → scan (drop at text) (plain at) at ≡ after_field text at (plain_at at (drop at text))
 unfolding Plain
@@ -131,15 +131,15 @@ field_scan text at = go (starts quote (drop at text)) refl
     go false e = rw e (fresh_plain (drop at text) at e ∙ plain_after text at)
 
 -- a field lies inside the text, behind where it was looked for
-abbrev pub Within : (text : List ℕ) (at : ℕ) → Found → Type 0
-Within text at (Field a e next) = (at ≤ a) × (a ≤ e) × (e ≤ next) × (next ≤ length text)
-Within text at Unclosed = Unit {0}
+abbrev pub Within : (text : List ℕ) (at : ℕ) → Option Found → Type 0
+Within text at (Some f) = (at ≤ f.start) × (f.start ≤ f.end) × (f.end ≤ f.next) × (f.next ≤ length text)
+Within text at None = Unit {0}
 
 within_quoted : (text : List ℕ) (at : ℕ) → at < length text → Within text at (quoted_at (at + 1) (drop (at + 1) text))
 within_quoted text at h = go (ltb (body_run (drop (at + 1) text)) (length (drop (at + 1) text))) refl
   where
     go : (c : Bool) → ltb (body_run (drop (at + 1) text)) (length (drop (at + 1) text)) ≡ c
-        → Within text at (cond c (Field (at + 1) (at + 1 + body_run (drop (at + 1) text)) (at + 1 + body_run (drop (at + 1) text) + 1)) Unclosed)
+        → Within text at (cond c (Some (found (at + 1) (at + 1 + body_run (drop (at + 1) text)) (at + 1 + body_run (drop (at + 1) text) + 1))) None)
     go true e =
         let lt = ltb-true (body_run (drop (at + 1) text)) (length (drop (at + 1) text)) e in let len = length-drop (at + 1) text in
         (omega arith, omega arith, omega arith, omega arith)
@@ -156,21 +156,21 @@ within text at h = go (starts quote (drop at text)) refl
 
 -- what the code finds
 pub found_quoted : (text : List ℕ) (at e : ℕ) (d : Bool) → d ≡ starts quote (drop at text) → d ≡ true → e ≡ at + 1 + body_run (drop (at + 1) text) → e < length text
-    → Field (at + 1) e (e + 1) ≡ field_at text at
+    → Some (found (at + 1) e (e + 1)) ≡ field_at text at
 found_quoted text at e d is yes_quote end h =
     let len = length-drop (at + 1) text in
     let closes : ltb (body_run (drop (at + 1) text)) (length (drop (at + 1) text)) ≡ true = lt-ltb (body_run (drop (at + 1) text)) (length (drop (at + 1) text)) (omega arith) in
     rw (sym is ∙ yes_quote, closes, end) refl
 
 pub found_unclosed : (text : List ℕ) (at e : ℕ) (d : Bool) → at ≤ length text → d ≡ starts quote (drop at text) → d ≡ true → e ≡ at + 1 + body_run (drop (at + 1) text)
-    → length text ≤ e → Unclosed ≡ field_at text at
+    → length text ≤ e → None ≡ field_at text at
 found_unclosed text at e d in_text is yes_quote end h =
     let len = length-drop (at + 1) text in
     let stays : ltb (body_run (drop (at + 1) text)) (length (drop (at + 1) text)) ≡ false = le-ltb (body_run (drop (at + 1) text)) (length (drop (at + 1) text)) (omega arith) in
     rw (sym is ∙ yes_quote, stays) refl
 
 pub found_plain : (text : List ℕ) (at e : ℕ) (d : Bool) → d ≡ starts quote (drop at text) → d ≡ false → e ≡ at + run special (drop at text)
-    → Field at e e ≡ field_at text at
+    → Some (found at e e) ≡ field_at text at
 found_plain text at e d is no_quote end = rw (sym is ∙ no_quote, end) refl
 
 pub quote_inside : (text : List ℕ) (at : ℕ) (d : Bool) → d ≡ starts quote (drop at text) → d ≡ true → at + 1 ≤ length text

@@ -12,9 +12,13 @@ use Rattle.table.specs.Does.{Outcome2, refused2}
 use Rattle.runs.specs.Width.{summing}
 use Rattle.vector.specs.declared.Vector.{Vector}
 use Rattle.vector.specs.Seen.{tray, state}
-use Rattle.pairs.specs.declared.vectors.Both.{Both}
-use Rattle.pairs.specs.Vectors.{seen2, says}
-use Rattle.record.specs.Recorded.{records, total_starts, total_ends, Records}
+use Rattle.std.specs.Prelude.{Ok, Err}
+use Rattle.table.specs.Answers.{number_in, told, numbered}
+use Rattle.table.specs.declared.answers.Answer.{Answer}
+use Rattle.table.specs.declared.answers.Both.{Both}
+use Rattle.table.specs.declared.answers.Refusal.{Refusal}
+use Rattle.pairs.specs.Seen.{both, seen2}
+use Rattle.record.specs.Recorded.{of_vector, records, total_starts, total_ends, Records}
 
 -- what stands in an empty vector adds up to nothing
 no_sum : (t : Tray) → t.len ≡ 0 → total (list vector t) ≡ 0
@@ -41,29 +45,29 @@ module _ (text : List ℕ) (t t2 : Tray) (o : Outcome2) (n : ℕ) (e : o ≡ rec
   unfolding total_ends
   ends_put none = rw (← e) (same_change n _ _ _ _ (omega (arith, no_sum t2 none)))
 
--- The promise, of an answer with the states that were given, and of one that is done.
-pub kept_whole : (text : List ℕ) (first second : Vector) (s z : List ℕ) (a : Both) (m : ℕ) → a ≡ says m 0 first second
-    → records text (tray first s) (tray second z) ≡ refused2 (tray first s) (tray second z) nowhere m
-    → first.total.sum < 2 ^ 64 → second.total.sum < 2 ^ 64 → Records text first s second z a s z
-kept_whole text first second s z a m is e small small2 = record {
-  row = ap (λ (a : Both). seen2 a s z) is ∙ sym e;
-  slot = ap (λ (a : Both). a.slot) is;
-  total = ap (λ (a : Both). a.first.total.sum) is ∙ starts_same text (tray first s) (tray second z) _ first.total.sum (sym e) refl small;
-  total2 = ap (λ (a : Both). a.second.total.sum) is ∙ ends_same text (tray first s) (tray second z) _ second.total.sum (sym e) refl small2;
+-- The promise, of a refused call, which leaves both as they were, and of one that is done.
+pub refused_whole : (text : List ℕ) (first second : Vector) (s z : List ℕ) (e : Refusal)
+    → records text (tray first s) (tray second z) ≡ refused2 (tray first s) (tray second z) nowhere (number_in e)
+    → first.total.sum < 2 ^ 64 → second.total.sum < 2 ^ 64 → Records text first s second z (Err e) s z
+refused_whole text first second s z e is small small2 = record {
+  row = sym is;
+  slot = refl;
+  total = starts_same text (tray first s) (tray second z) _ first.total.sum (sym is) refl small;
+  total2 = ends_same text (tray first s) (tray second z) _ second.total.sum (sym is) refl small2;
 }
 
 -- what the function `enter` answers, where the slots come to hold s' and z'
-abbrev pub reads_to : (first second : Vector) (s' z' : List ℕ) (value count : ℕ) → Both
+abbrev pub reads_to : (first second : Vector) (s' z' : List ℕ) (value count : ℕ) → Answer (Both Vector Vector)
 reads_to first second s' z' value count =
-    says 0 value (state count (summing (changed first.total.sum (total (entries itself count s')) 0)))
-    (state count (summing (changed second.total.sum (total (entries itself count z')) 0)))
+    told value 0 (both (state count (summing (changed first.total.sum (total (entries itself count s')) 0)))
+    (state count (summing (changed second.total.sum (total (entries itself count z')) 0))))
 
-pub grown : (text : List ℕ) (first second : Vector) (s z s' z' : List ℕ) (a : Both) (value count : ℕ) → a ≡ reads_to first second s' z' value count
-    → seen2 (reads_to first second s' z' value count) s' z' ≡ records text (tray first s) (tray second z) → first.len ≡ 0 → second.len ≡ 0
-    → Records text first s second z a s' z'
+pub grown : (text : List ℕ) (first second : Vector) (s z s' z' : List ℕ) (a : Answer (Both Vector Vector)) (value count : ℕ) → a ≡ reads_to first second s' z' value count
+    → seen2 of_vector of_vector (numbered (both first second) (Ok (reads_to first second s' z' value count))) s' z' ≡ records text (tray first s) (tray second z)
+    → first.len ≡ 0 → second.len ≡ 0 → Records text first s second z (Ok a) s' z'
 grown text first second s z s' z' a value count is e none none2 = record {
-  row = ap (λ (a : Both). seen2 a s' z') is ∙ e;
-  slot = ap (λ (a : Both). a.slot) is;
-  total = ap (λ (a : Both). a.first.total.sum) is ∙ starts_put text (tray first s) (tray second z) _ first.total.sum e none;
-  total2 = ap (λ (a : Both). a.second.total.sum) is ∙ ends_put text (tray first s) (tray second z) _ second.total.sum e none2;
+  row = ap (λ (a : Answer (Both Vector Vector)). seen2 of_vector of_vector (numbered (both first second) (Ok a)) s' z') is ∙ e;
+  slot = ap (λ (a : Answer (Both Vector Vector)). a.slot) is;
+  total = ap (λ (a : Answer (Both Vector Vector)). a.state.first.total.sum) is ∙ starts_put text (tray first s) (tray second z) _ first.total.sum e none;
+  total2 = ap (λ (a : Answer (Both Vector Vector)). a.state.second.total.sum) is ∙ ends_put text (tray first s) (tray second z) _ second.total.sum e none2;
 }

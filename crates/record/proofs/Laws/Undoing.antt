@@ -5,7 +5,7 @@ use mathlib.Core.List.{List, [], ◌∷◌, ◌++◌}
 use Prim.Native.Nat.{ℕ, zero, suc, ◌+◌, ◌-◌, ◌≤◌, ◌<◌}
 use native.Mathlib.Numerals.{add-one}
 use native.Mathlib.Omega.{arith}
-use borrow.Author.Tests.{eq-eqb, eqb-true, ne_eqb, lt-ltb, le-ltb, lt-leb, le-leb}
+use borrow.Author.Tests.{eqb-true, lt-ltb, le-ltb, lt-leb, le-leb}
 use lib.Dec.{eqb}
 use lib.ListN.{length, get_or, drop, set, length-set, length-take, length-drop}
 use lib.Seq.{sets, sets-eq, drop-drop}
@@ -13,22 +13,11 @@ use Rattle.record.specs.Grammar.{quote}
 use Rattle.record.specs.Scan.{starts}
 use Rattle.record.specs.Steps.{past}
 use Rattle.record.specs.Undone.{undone, part}
-use Rattle.record.specs.declared.texts.Told.{Told}
+use Rattle.std.specs.Prelude.{Ok, Err}
+use Rattle.table.specs.declared.answers.Refusal.TheVariants.{Long, Beyond, Full}
 use Rattle.record.specs.Recorded.{longest, told}
 use Rattle.record.specs.Unquoted.{unquoted, unquotes, Unquotes}
 use Rattle.record.proofs.Laws.Runs.{left, none_left, inside}
-
--- what the code finds behind a byte
-module _ (s : List ℕ) (at : ℕ) where
-  pub past_plain : (get_or s at 0 ≡ 34 → ⊥) → at + 1 ≡ past s at
-  past_plain other = sym (rw (ne_eqb (get_or s at 0) quote other) refl)
-
-  module _ (is : get_or s at 0 ≡ 34) (d : Bool) (e : d ≡ starts quote (drop (at + 1) s)) where
-    pub past_pair : d ≡ true → at + 1 + 1 ≡ past s at
-    past_pair two = let same : at + 1 + 1 ≡ at + 2 = omega arith in same ∙ sym (rw (eq-eqb (get_or s at 0) quote is, sym e ∙ two) refl)
-
-    pub past_one : d ≡ false → at + 1 ≡ past s at
-    past_one single = sym (rw (eq-eqb (get_or s at 0) quote is, sym e ∙ single) refl)
 
 undone_alone : (b : ℕ) (s : List ℕ) → eqb b quote && starts quote s ≡ false → undone (b ∷ s) ≡ b ∷ undone s
 unfolding undone
@@ -41,7 +30,7 @@ and_true false b e = absurd (let z : ◌≡◌ {A = ℕ} 0 1 = cc in omega arith
 
 undone_pair : (b : ℕ) (s : List ℕ) → eqb b quote && starts quote s ≡ true → undone (b ∷ s) ≡ b ∷ undone (drop 1 s)
 unfolding undone
-undone_pair b [] e = absurd (let z : ◌≡◌ {A = ℕ} 0 1 = cc (e, (and_true (eqb b quote) false e).1) in omega arith)
+undone_pair b [] e = absurd (let z : ◌≡◌ {A = ℕ} 0 1 = cc ((and_true (eqb b quote) false e).1) in omega arith)
 undone_pair b (c ∷ s) e = rw e (ap (λ x. x ∷ undone s) (sym (eqb-true b quote (and_true (eqb b quote) (eqb c quote) e).0)))
 
 -- one byte of the field, and the field behind it
@@ -135,36 +124,35 @@ sets_start : (new old : List ℕ) → length new ≤ length old → sets old 0 n
 sets_start new old fits = let none : 0 + length new ≡ length new = omega arith in sets-eq new old 0 (omega arith) ∙ rw none refl
 
 -- `field_text`
-module _ (text : List ℕ) (start end : ℕ) (out : List ℕ) (r : Told) where
-  pub too_long : longest < length text → r ≡ told 11 0 → Unquotes text start end out r out
+module _ (text : List ℕ) (start end : ℕ) (out : List ℕ) where
+  pub too_long : longest < length text → Unquotes text start end out (Err Long) out
   unfolding unquotes
-  too_long h e = record { row = rw (lt-ltb longest (length text) h) (ap (λ (r : Told). unquoted r out) e) }
+  too_long h = record { row = rw (lt-ltb longest (length text) h) refl }
 
   module _ (fit : length text ≤ longest) where
-    pub no_order : end < start → r ≡ told 3 0 → Unquotes text start end out r out
+    pub no_order : end < start → Unquotes text start end out (Err Beyond) out
     unfolding unquotes
-    no_order h e = record { row = rw (le-ltb longest (length text) fit, lt-leb start end h) (ap (λ (r : Told). unquoted r out) e) }
+    no_order h = record { row = rw (le-ltb longest (length text) fit, lt-leb start end h) refl }
 
     module _ (ordered : start ≤ end) where
-      pub no_end : length text < end → r ≡ told 3 0 → Unquotes text start end out r out
+      pub no_end : length text < end → Unquotes text start end out (Err Beyond) out
       unfolding unquotes
-      no_end h e = record { row = rw (le-ltb longest (length text) fit, le-leb start end ordered, lt-leb end (length text) h) (ap (λ (r : Told). unquoted r out) e) }
+      no_end h = record { row = rw (le-ltb longest (length text) fit, le-leb start end ordered, lt-leb end (length text) h) refl }
 
       module _ (inside_text : end ≤ length text) (size : ℕ) (size_is : size ≡ length (undone (part text start end))) where
-        pub no_room : length out < size → r ≡ told 6 0 → Unquotes text start end out r out
+        pub no_room : length out < size → Unquotes text start end out (Err Full) out
         unfolding unquotes
-        no_room h e = record {
+        no_room h = record {
           row =
-              rw (le-ltb longest (length text) fit, le-leb start end ordered, le-leb end (length text) inside_text, lt-ltb (length out) (length (undone (part text start end))) (omega arith))
-              (ap (λ (r : Told). unquoted r out) e);
+              rw (le-ltb longest (length text) fit, le-leb start end ordered, le-leb end (length text) inside_text, lt-ltb (length out) (length (undone (part text start end))) (omega arith)) refl;
         }
 
-        pub unquoted_there : (out' : List ℕ) → size ≤ length out → out' ≡ sets out 0 (undone (part text start end)) → r ≡ told 0 size → Unquotes text start end out r out'
+        pub unquoted_there : (out' : List ℕ) → size ≤ length out → out' ≡ sets out 0 (undone (part text start end)) → Unquotes text start end out (Ok size) out'
         unfolding unquotes
-        unquoted_there out' h written e =
+        unquoted_there out' h written =
             let there : out' ≡ undone (part text start end) ++ drop (length (undone (part text start end))) out = written ∙ sets_start (undone (part text start end)) out (omega arith) in
             record {
               row =
                   rw (le-ltb longest (length text) fit, le-leb start end ordered, le-leb end (length text) inside_text, le-ltb (length out) (length (undone (part text start end))) (omega arith))
-                  (ap (λ (r : Told). unquoted r out') (e ∙ rw size_is refl) ∙ ap (unquoted (told 0 (length (undone (part text start end))))) there);
+                  (ap (λ n. unquoted (told 0 n) out') size_is ∙ ap (unquoted (told 0 (length (undone (part text start end))))) there);
             }

@@ -19,12 +19,16 @@ use Rattle.table.specs.Table.{holding}
 use Rattle.table.specs.Does.{Outcome2, refused2}
 use Rattle.table.proofs.Laws.Keeps.{relay_list}
 use Rattle.vector.specs.Seen.{tray}
-use Rattle.pairs.specs.Vectors.{seen2}
+use Rattle.table.specs.Answers.{numbered as in_numbers}
+use Rattle.table.specs.declared.answers.Both.{Both}
+use Rattle.table.specs.declared.answers.Numbered.{Numbered}
+use Rattle.vector.specs.declared.Vector.{Vector}
+use Rattle.pairs.specs.Seen.{both, seen2}
 use Rattle.record.specs.Grammar.{Fits}
 use Rattle.record.specs.Scan.{Ending, done, bad, unclosed, scanned}
 use Rattle.record.specs.Places.{firsts, lasts}
 use Rattle.record.specs.Steps.{number_of, place_of}
-use Rattle.record.specs.Recorded.{longest, told, judges, first_of, early_tests, late_tests, places, records}
+use Rattle.record.specs.Recorded.{of_vector, longest, told, judged, judges, first_of, early_tests, late_tests, places, records}
 use Rattle.record.specs.Numbers.{Applies, invalid_first, invalid_second, first_taken, second_taken, too_long, not_allowed, never_closed, few_starts, few_ends, First, order, Read, Judgement, long, fits, wrong, opened}
 use Rattle.record.proofs.Laws.Order.{by_tests}
 use Rattle.record.proofs.Laws.Saying.{not_held, length_firsts, length_lasts}
@@ -238,19 +242,23 @@ judges_means text = go (ltb longest (length text)) refl
     go false e = judged_as text (ltb-false longest (length text) e) (scanned text).ending refl
 
 module _ (κs : Lfts 1) (a : ArgsD judge·fn.signature κs) (r : ResD judge·fn.signature κs) (e : AtExit judge·fn.ended κs) (learnt : judge·reads.Learnt κs a r e) where
-  pub judge_means : Judgement a.0.now r.number r.value
+  pub judge_means : Judgement a.0.now (judged r).number (judged r).value
   judge_means = rw learnt (judges_means a.0.now)
 
 -- From the generated contract: a are the arguments, r is the result, and e the arguments as they are at the return.
 module _ (κs : Lfts 3) (a : ArgsD read·fn.signature κs) (r : ResD read·fn.signature κs) (e : AtExit read·fn.ended κs) (learnt : read·reads.Learnt κs a r e) where
-  pub read_numbers : First (Applies a.0.now (tray a.1.0 a.1.1.0.now) (tray a.1.1.1.0 a.1.1.1.1.0.now)) order r.number
+  -- the answer as the papers number it
+  abbrev n : Numbered (Both Vector Vector)
+  n = in_numbers (both a.1.0 a.1.1.1.0) r
+
+  pub read_numbers : First (Applies a.0.now (tray a.1.0 a.1.1.0.now) (tray a.1.1.1.0 a.1.1.1.1.0.now)) order n.number
   read_numbers = rw (ap (λ (o : Outcome2). o.number) learnt.row) (records_numbers _ _ _)
 
-  pub read_done : r.number ≡ 0 → Read a.0.now (seen2 r e.1.1.0.now e.1.1.1.1.0.now)
+  pub read_done : n.number ≡ 0 → Read a.0.now (seen2 of_vector of_vector n e.1.1.0.now e.1.1.1.1.0.now)
   read_done none = rw learnt.row (records_done _ _ _ (sym (ap (λ (o : Outcome2). o.number) learnt.row) ∙ none))
 
-  pub read_refused : (r.number ≡ 0 → ⊥) → seen2 r e.1.1.0.now e.1.1.1.1.0.now
-      ≡ refused2 (tray a.1.0 a.1.1.0.now) (tray a.1.1.1.0 a.1.1.1.1.0.now) nowhere r.number
+  pub read_refused : (n.number ≡ 0 → ⊥) → seen2 of_vector of_vector n e.1.1.0.now e.1.1.1.1.0.now
+      ≡ refused2 (tray a.1.0 a.1.1.0.now) (tray a.1.1.1.0 a.1.1.1.1.0.now) nowhere n.number
   read_refused no_zero =
       learnt.row
       ∙ records_refused _ _ _ (λ z. no_zero (ap (λ (o : Outcome2). o.number) learnt.row ∙ z))
@@ -258,7 +266,7 @@ module _ (κs : Lfts 3) (a : ArgsD read·fn.signature κs) (r : ResD read·fn.si
 
   -- unless 1, 2, 5, 11 or 6 applies
   pub read_exactly : ((j : ℕ) → Applies a.0.now (tray a.1.0 a.1.1.0.now) (tray a.1.1.1.0 a.1.1.1.1.0.now) j → (j ≡ 9) ⊎ (j ≡ 10))
-      → (r.number ≡ 0) ↔ Fits a.0.now
+      → (n.number ≡ 0) ↔ Fits a.0.now
   read_exactly only =
       let no : (j : ℕ) → (j ≡ 9 → ⊥) → (j ≡ 10 → ⊥) → Applies a.0.now (tray a.1.0 a.1.1.0.now) (tray a.1.1.1.0 a.1.1.1.1.0.now) j → ⊥ =
       λ j x y h. ⊎_elim x y (only j h) in

@@ -3,7 +3,7 @@ use Rattle.std.proofs.Common.{◌≡◌, ◌≤◌, ◌-◌, length}
 use Rattle.show.proofs.fill.Given as goal
 
 abbrev pub invariant-loop-at : goal.invariant-loop-at
-invariant-loop-at g l = (l.at ≤ length l.text) × (length l.text ≡ length l.fn.text)
+invariant-loop-at g l = l.at ≤ length l.text
 
 abbrev pub decreases-loop-at : goal.decreases-loop-at
-decreases-loop-at g l = length l.fn.text - l.at
+decreases-loop-at g l = length l.text - l.at

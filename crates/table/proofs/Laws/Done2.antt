@@ -6,7 +6,7 @@ use Prim.Native.Nat.{ℕ, ◌+◌, ◌-◌, ◌≤◌}
 use native.Mathlib.Omega.{arith}
 use borrow.Author.Tests.{eq-eqb, le-ltb}
 use lib.ListN.{length, take, drop, length-append, length-take, length-drop}
-use Rattle.slots.specs.Layout.{Kind, ring, vector, place, pos, slot_of, itself, entries, relaid}
+use Rattle.slots.specs.Layout.{Kind, vector, place, pos, itself, entries, relaid}
 use Rattle.slots.specs.Moves.{moved}
 use Rattle.slots.specs.Shift.{Filled}
 use Rattle.slots.specs.Copy.{Laid}
@@ -21,7 +21,7 @@ use Rattle.table.specs.Does.{Outcome2, refused2, head_after, done2, row_of2, ref
 use Rattle.table.proofs.Theorems.Carrying.{Carries}
 use Rattle.table.proofs.Laws.Valid.{fit}
 use Rattle.table.proofs.Laws.Refusals.{Clear, clear_of, inside}
-use Rattle.table.proofs.Laws.Done.{Homed, home_of_none, no_head_law, head_stays, rested_slots, shifted_plainly, row_carries2, many, still, as_it_was}
+use Rattle.table.proofs.Laws.Done.{Homed, home_of_none, no_head_law, rested_slots, shifted_plainly, row_carries2, many, still, as_it_was}
 
 -- a call that is done, moves nothing and has no cursor
 abbrev pub gives2 : (value h n : ℕ) → List ℕ → (h2 n2 : ℕ) → List ℕ → Outcome2
@@ -94,9 +94,9 @@ module _ (k k2 : Kind) (t t2 : Tray) (o : Outcome2) (ok : invalid k t ≡ false)
   anew : Placing (cap t2) (place k2 (cap t2) 0) (pos k2 (cap t2) 0)
   anew = placing k2 (cap t2) 0 (omega arith)
 
-  appends : (u u2 : List ℕ) → t2.len ≤ cap t - t.len → Laid (place k (cap t) t.head) t.len t2.len (list k2 t2) t.slots u
+  pub append_done : (u u2 : List ℕ) → t2.len ≤ cap t - t.len → Laid (place k (cap t) t.head) t.len t2.len (list k2 t2) t.slots u
       → Filled (place k2 (cap t2) t2.head) 0 t2.len 0 t2.slots u2 → o ≡ gives2 0 (head_after k (t.len + t2.len) t.head) (t.len + t2.len) u 0 0 u2 → o ≡ does2 k k2 append t t2
-  appends u u2 room m m2 eo =
+  append_done u u2 room m m2 eo =
       let f = fit k t ok in
       let longer : length (list k t ++ list k2 t2) ≡ t.len + t2.len = simp (length-append, many k t, many k2 t2) in
       cc (
@@ -116,7 +116,7 @@ module _ (k k2 : Kind) (t t2 : Tray) (o : Outcome2) (ok : invalid k t ≡ false)
   pub append_none_done : Homed k t → Homed k2 t2 → t2.len ≡ 0 → o ≡ gives2 0 t.head t.len t.slots t2.head t2.len t2.slots → o ≡ does2 k k2 append t t2
   append_none_done home home2 none eo =
       let sum : t.len + t2.len ≡ t.len = omega arith in
-      appends t.slots t2.slots (omega arith) (rw none (lay_none _ _ _ _)) (rw none (fill_none _ _ _ _)) (rw (sum, home) (eo ∙ at_home _ _ _ home2 none))
+      append_done t.slots t2.slots (omega arith) (rw none (lay_none _ _ _ _)) (rw none (fill_none _ _ _ _)) (rw (sum, home) (eo ∙ at_home _ _ _ home2 none))
 
   -- T, which is empty, gets a part of the list
   cloned : Homed k t → (u2 : List ℕ) → t2.len ≡ 0 → t.len ≤ cap t2 → Laid (place k2 (cap t2) 0) 0 t.len (list k t) t2.slots u2
@@ -142,10 +142,10 @@ module _ (k k2 : Kind) (t t2 : Tray) (o : Outcome2) (ok : invalid k t ≡ false)
   pub clone_none_done : Homed k t → Homed k2 t2 → t2.len ≡ 0 → t.len ≡ 0 → o ≡ gives2 0 t.head t.len t.slots t2.head t2.len t2.slots → o ≡ does2 k k2 clone t t2
   clone_none_done home home2 none none1 eo = cloned home t2.slots none (omega arith) (rw none1 (lay_none _ _ _ _)) (cc (eo, at_home t.head t.len t.slots home2 none, none1))
 
-  split : (i : ℕ) (u u2 : List ℕ) → i ≤ t.len → t2.len ≡ 0 → t.len - i ≤ cap t2 → Filled (place k (cap t) t.head) i t.len 0 t.slots u
+  pub split_done : (i : ℕ) (u u2 : List ℕ) → i ≤ t.len → t2.len ≡ 0 → t.len - i ≤ cap t2 → Filled (place k (cap t) t.head) i t.len 0 t.slots u
       → Laid (place k2 (cap t2) 0) 0 (t.len - i) (drop i (list k t)) t2.slots u2
       → o ≡ gives2 0 (head_after k i t.head) i u 0 (t.len - i) u2 → o ≡ does2 k k2 (split_off i) t t2
-  split i u u2 le none room m m2 eo =
+  split_done i u u2 le none room m m2 eo =
       let f = fit k t ok in
       let cut : length (take i (list k t)) ≡ i = simp (length-take, many k t) (omega arith) in
       let rest : length (drop i (list k t)) ≡ t.len - i = simp (length-drop, many k t) in
@@ -167,7 +167,7 @@ module _ (k k2 : Kind) (t t2 : Tray) (o : Outcome2) (ok : invalid k t ≡ false)
   split_none_done home home2 i le none ge eo =
       let e : i ≡ t.len = omega arith in
       let z : t.len - i ≡ 0 = omega arith in
-      split i t.slots t2.slots le none (omega arith) (rw e (fill_none _ _ _ _)) (rw z (lay_none _ _ _ _)) (cc (eo, at_home t.head t.len t.slots home2 none, e, z, home))
+      split_done i t.slots t2.slots le none (omega arith) (rw e (fill_none _ _ _ _)) (rw z (lay_none _ _ _ _)) (cc (eo, at_home t.head t.len t.slots home2 none, e, z, home))
 
 -- T, a vector that is empty, gets what remains of a cursor, and the cursor ends
 module _ (k : Kind) (t t2 : Tray) (o : Outcome2) (ok : invalid k t ≡ false) (ok2 : invalid vector t2 ≡ false) (c : Cursor) (ordered : c.front ≤ c.back)
@@ -201,26 +201,3 @@ pub from_iter_done : (k : Kind) (t t2 : Tray) (o : Outcome2) → invalid k t ≡
     → o ≡ fills t (c.back - c.front) u2 c.back → o ≡ does2 k vector (from_iter c) t t2
 from_iter_done k t t2 o ok ok2 c u2 le fits none home room m eo =
     from_iter_law k t t2 o ok ok2 c le fits none home u2 room (rw (entries_until (place k (cap t) t.head) t.len c.front c.back t.slots fits) m) eo
-
--- Of a ring, which keeps its head while entries come.
-pub append_done : (k2 : Kind) (t t2 : Tray) (o : Outcome2) → invalid ring t ≡ false → invalid k2 t2 ≡ false → (u u2 : List ℕ) → t2.len ≤ cap t - t.len
-    → Laid (slot_of (cap t) t.head) t.len t2.len (list k2 t2) t.slots u → Filled (place k2 (cap t2) t2.head) 0 t2.len 0 t2.slots u2
-    → o ≡ gives2 0 t.head (t.len + t2.len) u 0 0 u2 → o ≡ does2 ring k2 append t t2
-append_done k2 t t2 o ok ok2 u u2 room m m2 eo = appends ring k2 t t2 o ok ok2 u u2 room m m2 (rw (head_stays t ok (t.len + t2.len) (omega arith)) eo)
-
-pub split_done : (k2 : Kind) (t t2 : Tray) (o : Outcome2) → invalid ring t ≡ false → invalid k2 t2 ≡ false → (i : ℕ) (u u2 : List ℕ) → i ≤ t.len
-    → t2.len ≡ 0 → t.len - i ≤ cap t2 → Filled (slot_of (cap t) t.head) i t.len 0 t.slots u
-    → Laid (place k2 (cap t2) 0) 0 (t.len - i) (drop i (list ring t)) t2.slots u2
-    → o ≡ gives2 0 (head_after ring i t.head) i u 0 (t.len - i) u2 → o ≡ does2 ring k2 (split_off i) t t2
-split_done k2 t t2 o ok ok2 i u u2 le none room m m2 eo = split ring k2 t t2 o ok ok2 i u u2 le none room m m2 eo
-
--- Vectors, whose entries are their first slots.
-module _ (t t2 : Tray) (o : Outcome2) (ok : invalid vector t ≡ false) (ok2 : invalid vector t2 ≡ false) where
-  pub vector_append_done : (u u2 : List ℕ) → t2.len ≤ cap t - t.len → Laid itself t.len t2.len (list vector t2) t.slots u
-      → Filled itself 0 t2.len 0 t2.slots u2 → o ≡ gives2 0 0 (t.len + t2.len) u 0 0 u2 → o ≡ does2 vector vector append t t2
-  vector_append_done u u2 room m m2 eo = appends vector vector t t2 o ok ok2 u u2 room m m2 eo
-
-  pub vector_split_done : (i : ℕ) (u u2 : List ℕ) → i ≤ t.len → t2.len ≡ 0 → t.len - i ≤ cap t2
-      → Laid itself 0 (t.len - i) (drop i (list vector t)) t2.slots u2 → Filled itself i t.len 0 t.slots u
-      → o ≡ gives2 0 0 i u 0 (t.len - i) u2 → o ≡ does2 vector vector (split_off i) t t2
-  vector_split_done i u u2 le none room m2 m eo = split vector vector t t2 o ok ok2 i u u2 le none room m m2 eo

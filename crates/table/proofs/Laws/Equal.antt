@@ -77,13 +77,6 @@ module _ (k k2 : Kind) (t t2 : Tray) (o : Outcome2) (ok : invalid k t ≡ false)
   longer_done ne eo = asked false (tells_long _ _ (λ e. ne (sym (many k t) ∙ e ∙ many k2 t2))) eo
 
   -- they are one, and so many entries were compared
-  module _ (b : Bool) (lens : t.len ≡ t2.len)
-      (m : Tells b (entries (place k (cap t) t.head) t.len t.slots) (entries (place k2 (cap t2) t2.head) t.len t2.slots)) where
-    compared : Tells b (list k t) (list k2 t2)
-    compared = subst (λ n. Tells b (list k t) (entries (place k2 (cap t2) t2.head) n t2.slots)) lens m
-
-    pub same_done : b ≡ true → o ≡ answers t t2 1 → o ≡ does2 k k2 same t t2
-    same_done e eo = asked true (rw e at compared) eo
-
-    pub differ_done : b ≡ false → o ≡ answers t t2 0 → o ≡ does2 k k2 same t t2
-    differ_done e eo = asked false (rw e at compared) eo
+  pub same_done : (b : Bool) → t.len ≡ t2.len → Tells b (entries (place k (cap t) t.head) t.len t.slots) (entries (place k2 (cap t2) t2.head) t.len t2.slots)
+      → o ≡ answers t t2 (cond b 1 0) → o ≡ does2 k k2 same t t2
+  same_done b lens m eo = asked b (subst (λ n. Tells b (list k t) (entries (place k2 (cap t2) t2.head) n t2.slots)) lens m) eo

@@ -135,5 +135,3 @@ copies_rest u place place2 m m2 d n n2 n2' s z small fits empty sum e2 =
       is = no_change n _ small;
       is2 = e2 ∙ same_change n2 _ _ _ _ (omega (arith, ap total rest, total_empty (entries place2 m2 z) (length_entries place2 m2 z ∙ empty)));
     }
-
-pub ruleset flows2 = (goes_over, splits, copies)

@@ -1,11 +1,11 @@
 -- A cursor's step or peek where it is done, for a ring and a vector at once: the cursor is in order and within the list.
-use mathlib.Core.Path.{◌≡◌, refl}
+use mathlib.Core.Path.{◌≡◌}
 use mathlib.Core.Bool.{false}
 use Prim.Native.Nat.{ℕ, ◌+◌, ◌-◌, ◌≤◌, ◌<◌}
 use native.Mathlib.Omega.{arith}
 use borrow.Author.Tests.{ne_eqb, lt-leb}
 use lib.ListN.{get_or}
-use Rattle.slots.specs.Layout.{Kind, vector, place}
+use Rattle.slots.specs.Layout.{Kind, place}
 use Rattle.table.specs.Tray.{Tray, cap, invalid, Cursor}
 use Rattle.table.specs.Calls.{look, step_front, step_back, peek_front, peek_back}
 use Rattle.table.specs.Does.{Outcome, does}
@@ -34,19 +34,3 @@ module _ (k : Kind) (t : Tray) (o : Outcome) (ok : invalid k t ≡ false) (home 
       → o ≡ shows t (get_or t.slots s 0) u → o ≡ does k (look (peek_back u i)) t
   peek_back_done i more es eo =
       look_done k t o ok home (peek_back u i) (inside _ _ _ ordered fits, (lt-leb _ _ more, tt)) (rw (at k t (u.back - 1 - i) s (omega arith) es) eo)
-
--- A vector's position is its slot.
-module _ (t : Tray) (o : Outcome) (ok : invalid vector t ≡ false) (home : Homed vector t) (u : Cursor) (ordered : u.front ≤ u.back) (fits : u.back ≤ t.len) where
-  pub vector_step_front_done : (u.front ≡ u.back → ⊥) → o ≡ shows t (get_or t.slots u.front 0) (record { front = u.front + 1; back = u.back })
-      → o ≡ does vector (look (step_front u)) t
-  vector_step_front_done some eo = step_front_done vector t o ok home u _ ordered fits some refl eo
-
-  pub vector_step_back_done : (u.front ≡ u.back → ⊥) → o ≡ shows t (get_or t.slots (u.back - 1) 0) (record { front = u.front; back = u.back - 1 })
-      → o ≡ does vector (look (step_back u)) t
-  vector_step_back_done some eo = step_back_done vector t o ok home u _ ordered fits some refl eo
-
-  pub vector_peek_front_done : (i : ℕ) → i < u.back - u.front → o ≡ shows t (get_or t.slots (u.front + i) 0) u → o ≡ does vector (look (peek_front u i)) t
-  vector_peek_front_done i more eo = peek_front_done vector t o ok home u _ ordered fits i more refl eo
-
-  pub vector_peek_back_done : (i : ℕ) → i < u.back - u.front → o ≡ shows t (get_or t.slots (u.back - 1 - i) 0) u → o ≡ does vector (look (peek_back u i)) t
-  vector_peek_back_done i more eo = peek_back_done vector t o ok home u _ ordered fits i more refl eo

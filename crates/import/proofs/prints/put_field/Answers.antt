@@ -1,7 +1,13 @@
 -- `put_field` meets its promise: the pieces, one behind another.
-use borrow.Author.Rules.{rules}
-use Rattle.import.proofs.Lines.{field_wrote}
+use native.Mathlib.Omega.{arith}
+use Rattle.words.proofs.Writing.{wrote_then}
+use Rattle.import.specs.Lines.{field_line}
 use Rattle.import.proofs.prints.put_field.Goals as goal
 
 pub returns : goal.returns
-returns c = search (field_wrote, rules)
+unfolding field_line
+returns c =
+    let head = c.put_text-end.ensures in
+    let own = c.put_shown-end.ensures in
+    let end = c.put_text.ensures in
+    (wrote_then head (wrote_then own.0 end), omega (arith, head.behind, own.1, end.behind))

@@ -1,22 +1,16 @@
--- `vector_read` meets its promise: the refusals in their order, then the state, every slot and the total.
-use Rattle.std.proofs.Common.{rules}
-use Rattle.stored.proofs.Taking.{lines_read, lines_long, vector_over, vector_other, vector_room, len_fits, out_few, vector_done}
+-- `vector_read` meets its promise: refused, or the state, every slot and the total.
+use Rattle.stored.specs.Reads.{VectorRead}
+use Rattle.stored.proofs.Taking.{passed_on, vector_turned, len_fits, out_few, vector_done}
+use native.Mathlib.Omega.{arith}
 use Rattle.stored.proofs.readers.vector_read.Goals as goal
 
-pub returns-then-cap-gt-MOST : goal.returns-then-cap-gt-MOST
-returns-then-cap-gt-MOST c = search vector_over
-
-pub returns-then-first-cap : goal.returns-then-first-cap
-returns-then-first-cap c = search vector_room
-
-pub take_slots-requires : goal.take_slots-requires
-take_slots-requires c = search (lines_read, lines_long)
+pub returns-in_err-first : goal.returns-in_err-first
+returns-in_err-first c = passed_on (λ a. VectorRead c.args.text.now c.args.slots.now a c.take.new.slots) c.from_residual.ensures.1 (vector_turned _ _ _ _ c.in_err-first.ensures)
 
 pub run-total-requires : goal.run-total-requires
-run-total-requires c = search (len_fits, out_few, rules)
-
-pub returns-then-judged : goal.returns-then-judged
-returns-then-judged c = search vector_done
+run-total-requires c =
+    let took = c.in_ok-first.ensures in
+    (out_few _ _ _ _ _ took, omega arith, len_fits _ _ _ _ _ took)
 
 pub returns : goal.returns
-returns c = search vector_other
+returns c = vector_done _ _ _ _ c.in_ok-first.ensures _ _ c.run-total.ensures c.done.ensures

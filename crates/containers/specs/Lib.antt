@@ -1,0 +1,2 @@
+-- What the promises on any container cite.
+pub mod Reading

@@ -1,8 +1,0 @@
--- `ring::took` meets its promise: the total is changed, the state put together, then the answer.
-use borrow.Author.Rules.{rules}
-use Rattle.runs.proofs.Whole.{whole}
-use Rattle.ring.proofs.took.Statement.{statement}
-use Rattle.ring.proofs.took.Tie as tie
-
-pub took_spec : {M : Type 1} → statement M
-took_spec = tie.close (tie.spec (λ c κs. search rules) (λ c κs. search rules) (λ c κs. search rules) (λ c. cc (whole _ _ c.before.before.took.ensures)))

@@ -1,0 +1,12 @@
+-- `tum_ring_len` meets its promise: what is heard of the call is what is seen of it.
+use mathlib.Core.Path.{refl}
+use Rattle.table.specs.Calls.{len}
+use Rattle.tumbrelice.proofs.Numbers.{ring_numbers}
+use Rattle.tumbrelice.proofs.Words.{ring_fit, ring_looked}
+use Rattle.tumbrelice.proofs.rings.tum_ring_len.Goals as goal
+
+pub word-requires : goal.word-requires
+word-requires c = ring_fit _ _ _ _ _ (ring_numbers _ _ _ _ _ _ c.in_numbers-a.ensures c.len.ensures) refl
+
+pub returns : goal.returns
+returns c = ring_looked len c.args.state.now _ _ _ _ c.ring_in-r.ensures.0 c.ring_in-r.ensures.1 (ring_numbers _ _ _ _ _ _ c.in_numbers-a.ensures c.len.ensures) c.word.ensures

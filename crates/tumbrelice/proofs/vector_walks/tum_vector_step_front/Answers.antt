@@ -1,0 +1,12 @@
+-- `tum_vector_step_front` meets its promise: what is heard of the call is what is seen of it.
+use mathlib.Core.Path.{refl}
+use Rattle.table.specs.Calls.{step_front}
+use Rattle.tumbrelice.proofs.Numbers.{step_numbers}
+use Rattle.tumbrelice.proofs.Steps.{step_fit, vector_stepped}
+use Rattle.tumbrelice.proofs.vector_walks.tum_vector_step_front.Goals as goal
+
+pub word-requires : goal.word-requires
+word-requires c = step_fit _ _ _ _ (step_numbers _ _ _ _ _ _ c.in_numbers-a.ensures c.step_front.ensures) refl
+
+pub returns : goal.returns
+returns c = vector_stepped step_front (λ u t. refl) c.args.state.now _ c.args.cursor.now _ _ _ _ _ c.vector_in-v.ensures.0 c.cursor_in-u.ensures (step_numbers _ _ _ _ _ _ c.in_numbers-a.ensures c.step_front.ensures) c.word.ensures c.cursor_out.ensures

@@ -1,0 +1,12 @@
+-- `tum_vector_reserve` meets its promise: what is heard of the call is what is seen of it.
+use mathlib.Core.Path.{refl}
+use Rattle.table.specs.Calls.{reserve}
+use Rattle.tumbrelice.proofs.Numbers.{vector_numbers}
+use Rattle.tumbrelice.proofs.Words.{vector_fit, vector_looked}
+use Rattle.tumbrelice.proofs.vectors.tum_vector_reserve.Goals as goal
+
+pub word-requires : goal.word-requires
+word-requires c = vector_fit _ _ _ _ _ (vector_numbers _ _ _ _ _ _ c.in_numbers-a.ensures c.reserve.ensures) refl
+
+pub returns : goal.returns
+returns c = vector_looked (reserve c.args.k) c.args.state.now _ _ _ _ c.vector_in-v.ensures.0 c.vector_in-v.ensures.1 (vector_numbers _ _ _ _ _ _ c.in_numbers-a.ensures c.reserve.ensures) c.word.ensures

@@ -1,0 +1,12 @@
+-- `Vector::remove` meets its promise: the run after i shifts by one, and the last slot gets 0.
+use Rattle.table.specs.Does.{does}
+use Rattle.table.proofs.Laws.Shifted.{vector_remove_done}
+use Rattle.vector.proofs.Told.{passed_on, refusals, shown_lit}
+use Rattle.vector.proofs.Vector.remove.Goals as goal
+
+pub returns-in_err-holding : goal.returns-in_err-holding
+returns-in_err-holding c = passed_on c.from_residual.ensures.1 (search (refusals, c.in_err-holding.ensures))
+
+pub returns : goal.returns
+unfolding does
+returns c = search (vector_remove_done, shown_lit, c.in_ok-holding.ensures)

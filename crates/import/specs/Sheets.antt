@@ -57,10 +57,11 @@ pub record Begun (from : ℕ) (r : Sheet) : Type 0 where
   pub next : from ≡ r.passed
   pub passed : r.passed ≤ 3
 
--- a turn: bytes are passed, or it ends. from is where the rest begins
+-- a turn: bytes are passed, or it ends. from is where the rest begins. However it ends, no byte that was passed is forgotten
 abbrev pub left : (s : Sheet) (from : ℕ) → ℕ
 left s from = 18446744073709551616 - s.passed + from
 
 pub record Turned (s : Sheet) (from : ℕ) (r : Result Unit Ending) (s' : Sheet) (from' : ℕ) : Type 0 where
   pub few : s'.passed ≤ s.passed + 65536
   pub less : r ≡ Ok tt → left s' from' < left s from
+  pub kept : left s' from' ≤ left s from

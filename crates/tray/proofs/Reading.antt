@@ -41,4 +41,4 @@ fewer w r buffer more e low turned = omega (arith, turned.count, turned.some e)
 -- a turn that reads no byte
 pub nothing_read : (w : Went) (buffer : List ℕ) (more : Result Unit Ending) → (more ≡ Ok tt → ⊥) → Turned w buffer more w
 unfolding feeds
-nothing_read w buffer more last = record { last = 0; fits = omega arith; count = omega arith; state = refl; some = λ e. absurd (last e) }
+nothing_read w buffer more last = record { last = 0; fits = omega arith; count = omega arith; state = refl; some = λ e. absurd (last e); none = λ e. refl }

@@ -2,7 +2,7 @@
 ghost use Rattle.std.specs.Prelude.{◌≡◌, is_ok};
 ghost use Rattle.replay.specs.Lines.{is_known, takes_entry, is_beyond, reaches, takes};
 
-use std::fmt;
+use crate::prints::Page;
 
 // An operation and its numbers, of which x is b where that is an entry.
 // The operation stays a number, as docs/REPLAY.md has it: of an enum each of 82 cases would stand twice, where its number is read and where its call is made.
@@ -33,13 +33,14 @@ pub(crate) enum Why {
     Beyond,
 }
 
-impl fmt::Display for Why {
-    fn fmt<W: fmt::Write>(&self, f: &mut fmt::Formatter<W>) -> fmt::Result {
-        f.write_str(match self {
-            Why::Damaged => "! not 34 lower-case hexadecimal digits",
-            Why::Unknown => "! no such operation",
-            Why::Beyond => "! out of reach",
-        })
+impl Why {
+    // Its line, with the LF, so that it goes out as one.
+    pub(crate) fn put(self, page: &mut Page) {
+        match self {
+            Why::Damaged => page.put(b"! not 34 lower-case hexadecimal digits\n"),
+            Why::Unknown => page.put(b"! no such operation\n"),
+            Why::Beyond => page.put(b"! out of reach\n"),
+        }
     }
 }
 

@@ -141,6 +141,11 @@ impl Desk {
         }
     }
 
+    // How many bytes the answer to a call takes: its line, and a line for each slot.
+    pub(crate) fn room(&self) -> usize {
+        170 + 9 * self.first.count() + 9 * self.second.count()
+    }
+
     // Operations 01 to 0b: asked.rt lets no other through.
     // By number, as `Asked` has it.
     pub(crate) fn place(&mut self, q: Asked) {

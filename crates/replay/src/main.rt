@@ -43,27 +43,27 @@ impl Line {
     }
 }
 
-// The output, the desk, and what is printed of a call: the page of its answer, and what it shows, which is put down first, since the call may change it.
+// The output, the desk, and the page of what is printed of a line, which goes out in one write: no part of it without the rest.
 #[derive(Drop)]
 struct Bench<W> {
     output: W,
     desk: Desk,
     page: Page,
-    shown: Page,
 }
 
 impl<W: Write> Bench<W> {
     fn call(&mut self, q: Asked) {
-        let did = calls::call(q, &mut self.desk, &mut self.shown);
+        self.page.leave(self.desk.room());
+        let did = calls::call(q, &mut self.desk, &mut self.page);
         self.page.put_all(did, &self.desk);
         self.page.write(&mut self.output);
-        self.shown.write(&mut self.output);
     }
 
     fn untaken(&mut self, why: Why)
         ensures { self.new.desk ≡ self.old.desk }
     {
-        let _ = writeln!(self.output, "{why}");
+        why.put(&mut self.page);
+        self.page.write(&mut self.output);
     }
 
     // A line: what it prints is written.
@@ -114,7 +114,6 @@ fn main(rt: HostRuntime) {
         output: rt.stdout(),
         desk: Desk::new(),
         page: Page::new(),
-        shown: Page::new(),
     };
     bench.run(&mut rt.stdin());
 }

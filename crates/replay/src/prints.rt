@@ -5,8 +5,8 @@ use crate::answers::Did;
 use crate::desks::Desk;
 use std::io::Write;
 
-// The answer line of 170, and 9 bytes for each of 4,200 slots twice: more than a text of 40,000 and its LF.
-const ROOM: usize = 75770;
+// The answer line of 170, 9 bytes for each of 4,200 slots twice, a text of 40,000 and its LF.
+const ROOM: usize = 115771;
 
 // What is to be printed. What would not fit is left out, so that nothing is asked of a caller; there is room for the largest desk.
 // An array and a count, as in texts.rt.
@@ -14,7 +14,7 @@ const ROOM: usize = 75770;
 pub(crate) struct Page {
     bytes: [u8; ROOM],
     at: usize,
-    ghost within: { at ≤ 75770 },
+    ghost within: { at ≤ 115771 },
 }
 
 impl Page {
@@ -73,14 +73,22 @@ impl Page {
         self.put_word(16, second.total.sum, b'\n');
     }
 
-    // All of it.
+    // What a call shows is put down first, since the call may change it: behind so many bytes, which its answer takes.
+    pub(crate) fn leave(&mut self, room: usize) {
+        self.at = room.min(ROOM);
+    }
+
+    // The answer and all slots, in the bytes that were left.
     pub(crate) fn put_all(&mut self, did: Did, desk: &Desk) {
+        let end = self.at;
+        self.at = 0;
         self.put_answer(did, desk);
         self.put_slots(desk.first.held());
         self.put_slots(desk.second.held());
+        self.at = end;
     }
 
-    // All that was put down goes out, and the page is empty again.
+    // All that was put down goes out, in one write, and the page is empty again.
     pub(crate) fn write<W: Write>(&mut self, output: &mut W) {
         let _ = output.write_all(&self.bytes[..self.at]);
         self.at = 0;

@@ -16,6 +16,8 @@ use Rattle.tray_lines.specs.Answers.{Tells, told_seen}
 use Rattle.tray_lines.specs.Feeds.{Midway, Kept, midway, Ends, ended_seen, Fills}
 use Rattle.tray_lines.proofs.lines as lines·fn
 use Rattle.tray_lines.specs.contracts.lines as lines·promise
+use Rattle.tray_lines.proofs.lines.U8FromUnsaid.from as number_from·fn
+use Rattle.tray_lines.specs.contracts.lines.U8FromUnsaid.from as number_from·promise
 use Rattle.tray_lines.proofs.acts as acts·fn
 use Rattle.tray_lines.specs.contracts.acts as acts·promise
 use Rattle.tray_lines.proofs.answers as answers·fn
@@ -65,6 +67,9 @@ module _ (κs : Lfts 0) where
 
   pub ended_once : Twice feeds·promise.ended.ended κs (feeds·fn.ended.Reads.Learnt κs) (λ r e r' e'. r ≡ r')
   ended_once a r r' e e' p q = once ended_seen (λ (x : Ends). record { trays = trays_of x.world; answer = x.answer }) (λ s. refl) _ r r' p q
+
+  pub number_from_once : Twice number_from·promise.ended κs (number_from·fn.Reads.Learnt κs) (λ r e r' e'. r ≡ r')
+  number_from_once a r r' e e' p q = p ∙ sym q
 
 module _ (κs : Lfts 1) where
   pub parse_once : Twice lines·promise.parse.ended κs (lines·fn.parse.Reads.Learnt κs) (λ r e r' e'. r ≡ r')

@@ -50,7 +50,7 @@ pub struct After<A> {
 }
 
 // How a container's state is kept between two calls, and given to the next, with the total 0. Each impl repeats the clause of `state`, which the check takes from no trait.
-pub trait Kept: Container {
+pub(crate) trait Kept: Container {
     type Head: Copy;
 
     ghost keeps: { Keeping Self Self.Head };

@@ -47,19 +47,25 @@ fn keep(s: State, b: u8) -> State
     ensures { midway result ≡ (takes keeping (midway s) b).state }
 {
     let n = s.count;
-    let mut kept = s;
     if n < 17 {
-        kept.line[n] = b;
-        kept.count = n + 1;
+        let mut line = s.line;
+        line[n] = b;
+        return State {
+            line,
+            count: n + 1,
+            ..s
+        };
     }
-    kept
+    s
 }
 
-// The answer to the bytes kept of a line.
-fn answer_of(s: State) -> After<[u8; 27]>
-    ensures { told_seen result ≡ tells (world s.trays) (take s.count s.line) }
+// The answer to the bytes kept of a line. Containers and line come apart, here and where it is called: a state that is lent whole is copied for every byte,
+// also for those that are only kept.
+#[inline(always)]
+fn answer_of(trays: Trays, line: &[u8; 17], count: usize) -> After<[u8; 27]>
+    ensures { told_seen result ≡ tells (world trays) (take count line.now) }
 {
-    crate::answers::tell(s.trays, &s.line[..s.count.min(17)])
+    crate::answers::tell(trays, &line[..count.min(17)])
 }
 
 // The end of the input: a line begun counts if it isn't empty.
@@ -74,7 +80,7 @@ pub fn ended(s: State) -> After<Option<[u8; 27]>>
             answer: None,
         };
     }
-    let told = answer_of(s);
+    let told = answer_of(s.trays, &s.line, n);
     After {
         trays: told.trays,
         answer: Some(told.answer),
@@ -96,7 +102,8 @@ fn one(s: State, b: u8, out: &mut [u8], at: usize) -> Step
     ensures { step_seen result out.new ≡ puts (takes keeping (midway s) b) out.old at }
 {
     if b == 10 {
-        let told = answer_of(s);
+        let line = s.line;
+        let told = answer_of(s.trays, &line, s.count);
         lay(out, at, told.answer);
         return Step {
             state: fresh(told.trays),

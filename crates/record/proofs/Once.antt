@@ -22,6 +22,10 @@ use Rattle.record.specs.contracts.texts.judge as judge·fn
 use Rattle.record.proofs.texts.judge.Reads as judge·reads
 use Rattle.record.proofs.texts as texts
 use Rattle.record.specs.contracts.texts as texts·promise
+use Rattle.record.proofs.RefusalFromFault.from as refusal_from·fn
+use Rattle.record.specs.contracts.RefusalFromFault.from as refusal_from·promise
+use Rattle.record.proofs.U32FromFault.from as place_from·fn
+use Rattle.record.specs.contracts.U32FromFault.from as place_from·promise
 
 -- In what follows a are the arguments, r and r' are results, and e and e' the arguments as they are at the return.
 module _ (κs : Lfts 3) where
@@ -47,3 +51,10 @@ module _ (κs : Lfts 2) where
   field_text_once a r r' e e' p q =
       let same = p.row ∙ sym q.row in
       (numbered_back r r' (ap (λ (u : Unquoted). u.answer) same), ap (λ (u : Unquoted). u.out) same)
+
+module _ (κs : Lfts 0) where
+  pub refusal_from_once : Twice refusal_from·promise.ended κs (refusal_from·fn.Reads.Learnt κs) (λ r e r' e'. r ≡ r')
+  refusal_from_once a r r' e e' p q = p ∙ sym q
+
+  pub place_from_once : Twice place_from·promise.ended κs (place_from·fn.Reads.Learnt κs) (λ r e r' e'. r ≡ r')
+  place_from_once a r r' e e' p q = p ∙ sym q

@@ -15,13 +15,13 @@ use Rattle.stored.specs.Judge.{judge, numbers}
 use Rattle.stored.specs.Reads.{reads}
 use Rattle.stored.specs.Written.{writes}
 
--- the code's kinds; and the one with this byte, or none has it
+-- the code's kinds; and the one with this byte, or none has it, and the number is given back
 abbrev pub kind_of : code.Kind → Kind
 kind_of Ring = ring
 kind_of Vector = vector
 
 abbrev pub Decodes : (number : ℕ) → Result code.Kind UnknownKind → Type 0
-Decodes number r = MatchResult r (λ kind. kind_byte (kind_of kind) ≡ number) (λ e. 1 < number)
+Decodes number r = MatchResult r (λ kind. kind_byte (kind_of kind) ≡ number) (λ e. (e.0 ≡ number) × (1 < number))
 
 -- sixteen digits as kind, second byte, capacity, head and length: 1, 1, 2, 2 and 2 bytes
 abbrev pub parted : (x : ℕ) → First

@@ -61,7 +61,8 @@ fn put_slots(text: &mut [u8], from: usize, slots: &[u32])
     }
 }
 
-// The stored form of a valid container, at the start of a text with room for it, and how long it is.
+// The stored form of a valid container, at the start of a text with room for it, and how long it is. Within its callers: a text without room is refused sooner.
+#[inline(always)]
 fn put_form(
     text: &mut [u8],
     kind: Kind,

@@ -17,4 +17,4 @@ pub draw_container-requires : goal.draw_container-requires
 draw_container-requires g c = search (drawable, rules)
 
 pub unreachable-requires : goal.unreachable-requires
-unreachable-requires g c = kind_known _ c.requires _ c.field_at-kind.ensures.0 c.in-Err.ensures
+unreachable-requires g c = kind_known _ c.requires _ c.field_at-kind.ensures.0 c.in-Err.ensures.1

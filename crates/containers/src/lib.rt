@@ -152,10 +152,13 @@ impl Container for Vector {
         at
     }
 
+    // It and `take_over` within their callers: by calls of their own, from_iter and split_off of 16 entries take a fifteenth and a sixth more instructions, and 16 bytes of stack more.
+    #[inline(always)]
     fn bring(self, slots: &[u32], from: usize, to: usize, theirs: &mut [u32]) -> Total {
         runs::bring::bring_run(theirs, 0, slots, from, to)
     }
 
+    #[inline(always)]
     fn take_over(
         self,
         slots: &mut [u32],

@@ -166,6 +166,8 @@ pub fn same<A: Container, B: Container>(
 }
 
 // Whether the first entries of two containers with these heads are alike. Where both begin at slot 0, as vectors do, each is one run of slots.
+// Within a caller a vector's head is the constant 0, and what only a ring needs falls away.
+#[inline(always)]
 fn compared(slots: &[u32], head: usize, theirs: &[u32], start: usize, count: usize) -> bool
     requires { (length slots.now ≤ most) × (head ≤ length slots.now - 1) × (start ≤ length theirs.now) × (count ≤ length slots.now) × (count ≤ length theirs.now) }
     ensures { Tells result (entries (slot_of (length slots.now) head) count slots.now) (entries (slot_of (length theirs.now) start) count theirs.now) }

@@ -35,6 +35,8 @@ fn many(slots: &mut [u32], at: usize, part: &[u32]) -> u64
     halves.whole()
 }
 
+// Within its callers, and so `bring_run`: by calls of their own, from_iter of a vector takes up to 24 bytes of stack more.
+#[inline(always)]
 fn laid(slots: &mut [u32], at: usize, part: &[u32]) -> u64
     requires { (at + length part.now ≤ length slots.old) × (length part.now ≤ most) }
     ensures { Laid itself at (length part.now) part.now slots.old slots.new × (result ≡ total part.now) × (result ≤ 2 ^ 45) }
@@ -55,6 +57,7 @@ pub fn bring_part(slots: &mut [u32], at: usize, part: &[u32]) -> Total
 }
 
 // The same of slots from .. to of another run.
+#[inline(always)]
 pub fn bring_run(slots: &mut [u32], at: usize, theirs: &[u32], from: usize, to: usize) -> Total
     requires { (at + (to - from) ≤ length slots.old) × (length theirs.now ≤ most) × (from ≤ to) × (to ≤ length theirs.now) }
     ensures { Laid itself at (to - from) (drop from (entries itself to theirs.now)) slots.old slots.new × (result.sum ≡ total (drop from (entries itself to theirs.now))) }

@@ -37,6 +37,9 @@ pub fn ring_clear(slots: &mut [u32], head: usize, from: usize, to: usize) -> Tot
 {
     let runs = parted(slots.len(), head, from, to);
     let far = run_clear(slots, runs.start, runs.end);
+    if runs.rest == 0 {
+        return far;
+    }
     let near = run_clear(slots, 0, runs.rest);
     Total {
         sum: far.sum + near.sum,

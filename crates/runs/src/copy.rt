@@ -22,6 +22,9 @@ fn lay(slots: &mut [u32], head: usize, at: usize, part: &[u32], count: usize)
     let runs = parted(slots.len(), head, at, at + count);
     let near = runs.end - runs.start;
     run_copy(slots, runs.start, part, near);
+    if runs.rest == 0 {
+        return;
+    }
     run_copy(slots, 0, &part[near..], runs.rest);
 }
 

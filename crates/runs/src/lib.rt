@@ -41,12 +41,15 @@ pub fn run_up(slots: &mut [u32], from: usize, to: usize)
     slots[from..to + 1].copy_within(..to - from, 1);
 }
 
-// Slots from .. to hold x.
+// Slots from .. to hold x. By a loop: the library's `fill` stores the last slot by itself, and of 16 LLVM then stores eight at once and seven one by one.
 pub fn run_fill(slots: &mut [u32], from: usize, to: usize, x: u32)
     requires { (from ≤ to) × (to ≤ length slots.old) }
     ensures { Filled itself from to x slots.old slots.new }
 {
-    slots[from..to].fill(x);
+    let part = &mut slots[from..to];
+    for slot in part.iter_mut() {
+        *slot = x;
+    }
 }
 
 // A ring's positions from .. to take what the next position holds, the lowest first.
@@ -83,5 +86,8 @@ pub fn fill(slots: &mut [u32], head: usize, from: usize, to: usize, x: u32)
 {
     let runs = parted(slots.len(), head, from, to);
     run_fill(slots, runs.start, runs.end, x);
+    if runs.rest == 0 {
+        return;
+    }
     run_fill(slots, 0, runs.rest, x);
 }

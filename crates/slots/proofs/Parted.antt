@@ -45,6 +45,10 @@ module _ (h from to start end rest : ℕ) (s : List ℕ) (reach : Reach (length 
   pub sum_parted : (a b : ℕ) → a ≡ total (take (end - start) (drop start s)) → b ≡ total (take rest s) → a + b ≡ total (drop from (entries (slot_of (length s) h) to s))
   sum_parted a b e e2 = rw (e, e2) (sym (total_append _ _) ∙ ap total runs_are)
 
+  -- one run alone
+  pub sum_one : rest ≡ 0 → (a : ℕ) → a ≡ total (drop start (entries itself end s)) → a ≡ total (drop from (entries (slot_of (length s) h) to s))
+  sum_one none a e = e ∙ ap total (sym (lent start end s p.run p.fits)) ∙ ap total (sym (append-nil _) ∙ (rw none at runs_are))
+
   -- the second run added up after the first was filled, which left it as it was
   pub sum_parted_filled : (a b x : ℕ) (mid : List ℕ) → Filled itself start end x s mid → a ≡ total (drop start (entries itself end s))
       → b ≡ total (drop 0 (entries itself rest mid)) → a + b ≡ total (drop from (entries (slot_of (length s) h) to s))
@@ -66,7 +70,21 @@ module _ (h from to start end rest : ℕ) (s : List ℕ) (reach : Reach (length 
       let all : length (take (end - start) (drop start s)) + length (take rest s) ≡ to - from = omega (arith, long, more) in
       rw (← runs_are) (rw all at (lay_append itself 0 _ _ old mid new (omega (arith, long, more)) m (rw behind at n)))
 
--- What is written: a run of slots is a run of positions, and past the last slot the second run goes on at slot 0.
+-- What is written: a run of slots is a run of positions, which may be all of them.
+module _ (h from to start end rest x : ℕ) (old new : List ℕ) (reach : Reach (length old) h from to) (p : Parted (length old) h from to start end rest) where
+  pub fill_one : rest ≡ 0 → Filled itself start end x old new → Filled (slot_of (length old) h) from to x old new
+  fill_one none m =
+      let e : end ≡ start + (to - from) = omega arith in
+      fill_straight h from to start x old new reach p.first (omega arith) (rw e at m)
+
+-- the same of numbers that are laid
+module _ (h at count start end rest : ℕ) (s old new : List ℕ) (reach : Reach (length old) h at (at + count)) (p : Parted (length old) h at (at + count) start end rest) where
+  pub lay_one : rest ≡ 0 → Laid itself start (end - start) s old new → Laid (slot_of (length old) h) at count s old new
+  lay_one none m =
+      let e : end - start ≡ count = omega arith in
+      lay_straight h at count start s old new reach p.first (omega arith) (rw e at m)
+
+-- Past the last slot a second run goes on at slot 0, and it may be empty.
 module _ (h from to start end rest : ℕ) (old mid new : List ℕ) (reach : Reach (length old) h from to) (p : Parted (length old) h from to start end rest) where
   pub fill_parted : (x : ℕ) → Filled itself start end x old mid → Filled itself 0 rest x mid new → Filled (slot_of (length old) h) from to x old new
   fill_parted x m n =
@@ -77,9 +95,8 @@ module _ (h from to start end rest : ℕ) (old mid new : List ℕ) (reach : Reac
       fill_around h from to start x old new reach p.first mid (omega arith) (rw e at m) (rw q at n))
       (λ (none : rest ≤ 0).
       let z : rest ≡ 0 = omega arith in
-      let e : end ≡ start + (to - from) = omega arith in
       let same : new ≡ mid = one_fill itself itself 0 0 x mid new mid (placing vector (length mid) 0 (omega arith)) (rw z at n) (fill_none itself 0 x mid) in
-      rw same (fill_straight h from to start x old mid reach p.first (omega arith) (rw e at m)))
+      rw same (fill_one h from to start end rest x old mid reach p z m))
       (below? 0 rest)
 
 -- the same of numbers that are laid
@@ -93,9 +110,8 @@ module _ (h at count start end rest : ℕ) (s old mid new : List ℕ) (reach : R
       lay_around h at count start s old new reach p.first mid (omega arith) (rw e at m) enough (rw (e, q) at n))
       (λ (none : rest ≤ 0).
       let z : rest ≡ 0 = omega arith in
-      let e : end - start ≡ count = omega arith in
       let same : new ≡ mid = one_lay itself itself 0 0 _ mid new mid (placing vector (length mid) 0 (omega arith)) (rw z at n) (lay_none itself 0 _ mid) in
-      rw same (lay_straight h at count start s old mid reach p.first (omega arith) (rw e at m)))
+      rw same (lay_one h at count start end rest s old mid reach p z m))
       (below? 0 rest)
 
 -- Shifts of the positions from .. to and of position `to`: of one run, or of two and across from the last slot to slot 0.

@@ -21,7 +21,7 @@ use Rattle.table.proofs.Laws.Refusals.{Clear, clear_of}
 use Rattle.table.proofs.Laws.Done.{no_head_law}
 
 -- a making on no more than 4,096 slots that no refusal of its row stops
-made_is : (k : Kind) (m : Making) (slots : List ℕ) → length slots ≤ 4096 → Clear (makes (length slots) m).refusals
+pub made_is : (k : Kind) (m : Making) (slots : List ℕ) → length slots ≤ 4096 → Clear (makes (length slots) m).refusals
     → made k m slots ≡ done k (bare slots) (begins m) (makes (length slots) m)
 unfolding made
 made_is k m slots few clear =
